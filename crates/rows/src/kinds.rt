@@ -1,0 +1,37 @@
+// The three kinds of row, told by its place and its two words.
+ghost use mathlib.Core.Path.{_≡_};
+ghost use Rattle.rows.specs.Rows.{isFalseRow, isLeaf, isGate, isRow};
+
+// The first word of row 0.
+pub const FALSE_ROW: u32 = 4294967294;
+
+// The first word of a leaf, and the init of a latch that has none.
+pub const NONE: u32 = 4294967295;
+
+// Are the words a and b the false row at place i?
+fn is_false_row(i: usize, a: u32, b: u32) -> bool
+    ensures { λ r. ⌜ r ≡ isFalseRow i a b ⌝ }
+{
+    (i == 0) & (a == FALSE_ROW) & (b == 0)
+}
+
+// Are they a leaf there?
+pub fn is_leaf(i: usize, a: u32, b: u32) -> bool
+    ensures { λ r. ⌜ r ≡ isLeaf i a b ⌝ }
+{
+    (0 < i) & (a == NONE) & (b == 0)
+}
+
+// Are they a gate there? A code is below 2·i exactly if its id is below i.
+pub fn is_gate(i: usize, a: u32, b: u32) -> bool
+    ensures { λ r. ⌜ r ≡ isGate i a b ⌝ }
+{
+    (((a / 2) as usize) < i) & (((b / 2) as usize) < i)
+}
+
+// Are they a row there?
+pub fn is_row(i: usize, a: u32, b: u32) -> bool
+    ensures { λ r. ⌜ r ≡ isRow i a b ⌝ }
+{
+    is_false_row(i, a, b) | is_leaf(i, a, b) | is_gate(i, a, b)
+}
