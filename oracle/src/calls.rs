@@ -6,7 +6,12 @@ mod edges;
 mod rows;
 
 use crate::case::{Case, Outcome};
+use crate::graph::{SLICES, WIDTH};
 use crate::rng::Rng;
+
+/// Slots of FORMAT.md: the list or map, and the marks.
+pub const LIST: usize = 18;
+pub const MARKS: usize = 19;
 
 pub struct Call {
     pub number: u64,
@@ -25,6 +30,23 @@ pub struct Count {
     pub slot: usize,
     pub scalar: usize,
     pub width: usize,
+}
+
+/// The counts of a graph that is lent from a slot on and counted from a scalar on.
+pub const fn graph_counts(slot: usize, scalar: usize) -> [Count; SLICES] {
+    let mut counts = [Count {
+        slot,
+        scalar,
+        width: 0,
+    }; SLICES];
+    let mut slice = 0;
+    while slice < SLICES {
+        counts[slice].slot += slice;
+        counts[slice].scalar += slice;
+        counts[slice].width = WIDTH[slice];
+        slice += 1;
+    }
+    counts
 }
 
 pub fn all() -> impl Iterator<Item = &'static Call> {

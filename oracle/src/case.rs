@@ -75,15 +75,16 @@ impl Case {
             && self.slots.iter().all(|s| s.words.len() <= room(s.number))
     }
 
+    /// The call, its scalars and the number of slots.
+    pub fn write_head(&self, script: &mut String) {
+        let scalars = self.scalars.iter().copied();
+        let head = [self.call, self.scalars.len() as u64].into_iter();
+        write_numbers(script, head.chain(scalars).chain([self.slots.len() as u64]));
+    }
+
     /// The case for the program, on one line.
     pub fn write(&self, script: &mut String) {
-        write_numbers(script, [self.call, self.scalars.len() as u64]);
-        script.push(' ');
-        for &scalar in &self.scalars {
-            write_numbers(script, [scalar]);
-            script.push(' ');
-        }
-        write_numbers(script, [self.slots.len() as u64]);
+        self.write_head(script);
         for slot in &self.slots {
             script.push(' ');
             slot.write(script);

@@ -1,7 +1,7 @@
 //! Runs random cases of every call and compares what the program writes.
 
 use crate::calls::{self, Call};
-use crate::case::Case;
+use crate::case::{Case, Outcome};
 use crate::program::{Program, Run};
 use crate::rng::Rng;
 use crate::shrink::shrink;
@@ -19,11 +19,12 @@ const SHOWN: usize = 600;
 /// Of each call, how many cases had each answer.
 type Tally = BTreeMap<u64, [u64; 6]>;
 
-/// A case that the program does not answer as expected.
-struct Difference {
-    case: Case,
+/// What was expected of a case and what the program wrote.
+struct Difference<'a> {
+    case: &'a Case,
     expected: Vec<String>,
     wrote: Vec<String>,
+    ended: ExitStatus,
 }
 
 /// `count` cases of every call; true where the program answers all of them as expected.
@@ -43,8 +44,8 @@ pub fn compare(program: &Program, count: u64, seed: u64) -> io::Result<bool> {
 
 fn compare_cases(program: &Program, cases: &[Case], tally: &mut Tally) -> io::Result<bool> {
     let run = program.run("cases", &script(cases))?;
-    if let Some(difference) = first_difference(cases, &run, tally) {
-        report(program, &difference, run.ended)?;
+    if let Some(at) = first_difference(cases, &run.lines, tally) {
+        report(program, cases, at, &run)?;
         return Ok(false);
     }
     if let Some(complaint) = bad_end(cases, &run) {
@@ -76,28 +77,33 @@ fn script(cases: &[Case]) -> String {
     script
 }
 
-fn first_difference(cases: &[Case], run: &Run, tally: &mut Tally) -> Option<Difference> {
-    let mut lines = run.lines.as_slice();
-    for case in cases {
-        let outcome = (calls::of(case).expected)(case);
+fn expected(case: &Case) -> Outcome {
+    (calls::of(case).expected)(case)
+}
+
+/// The first case whose lines are not the expected ones; those before it are tallied.
+fn first_difference(cases: &[Case], mut lines: &[String], tally: &mut Tally) -> Option<usize> {
+    cases.iter().position(|case| {
+        let outcome = expected(case);
         let expected = outcome.lines(case.call);
         let wrote;
         (wrote, lines) = lines.split_at(expected.len().min(lines.len()));
-        if wrote != expected {
-            return Some(Difference {
-                case: case.clone(),
-                expected,
-                wrote: wrote.to_vec(),
-            });
+        let same = wrote == expected;
+        if same {
+            tally.entry(case.call).or_default()[outcome.answer.number as usize] += 1;
         }
-        tally.entry(case.call).or_default()[outcome.answer.number as usize] += 1;
-    }
-    None
+        !same
+    })
+}
+
+/// "one line for each slot given", after the first.
+fn lines_of(case: &Case) -> usize {
+    1 + case.slots.len()
 }
 
 /// Where every case is answered: did the program write more, or end otherwise than normally?
 fn bad_end(cases: &[Case], run: &Run) -> Option<String> {
-    let lines: usize = cases.iter().map(|case| 1 + case.slots.len()).sum();
+    let lines: usize = cases.iter().map(lines_of).sum();
     if run.lines.len() > lines {
         let more = shown(&run.lines[lines]);
         return Some(format!("after the last case the program wrote: {more}"));
@@ -107,45 +113,92 @@ fn bad_end(cases: &[Case], run: &Run) -> Option<String> {
 }
 
 /// The difference that the case makes alone.
-fn alone(program: &Program, case: &Case) -> io::Result<Option<Difference>> {
-    let cases = std::slice::from_ref(case);
-    let run = program.run("alone", &script(cases))?;
-    Ok(first_difference(cases, &run, &mut Tally::new()))
+fn alone<'a>(program: &Program, case: &'a Case) -> io::Result<Option<Difference<'a>>> {
+    let run = program.run("alone", &script(std::slice::from_ref(case)))?;
+    let expected = expected(case).lines(case.call);
+    let same = run.lines == expected && run.ended.success();
+    Ok((!same).then_some(Difference {
+        case,
+        expected,
+        wrote: run.lines,
+        ended: run.ended,
+    }))
 }
 
-fn report(program: &Program, difference: &Difference, ended: ExitStatus) -> io::Result<()> {
-    println!("A DIFFERENCE (the program ended with {ended})");
-    print_difference(difference);
-    if alone(program, &difference.case)?.is_none() {
-        println!("\nThe case makes no difference alone: it does after the cases before it.\n");
+fn report(program: &Program, cases: &[Case], at: usize, run: &Run) -> io::Result<()> {
+    println!("A DIFFERENCE");
+    in_script(cases, at, run).print();
+    let Some(case) = culprit(program, cases, at, run.ended)? else {
+        println!("\nNo case makes a difference alone: this one does after those before it.\n");
         return Ok(());
-    }
+    };
     let mut fails = |case: &Case| matches!(alone(program, case), Ok(Some(_)));
-    let smallest = shrink(&difference.case, TRIES, &mut fails);
+    let smallest = shrink(case, TRIES, &mut fails);
     if let Some(difference) = alone(program, &smallest)? {
         println!("\nTHE SMALLEST CASE FOUND");
-        print_difference(&difference);
+        difference.print();
         println!();
     }
     Ok(())
 }
 
-fn print_difference(difference: &Difference) {
-    let case = &difference.case;
-    let mut text = String::new();
-    case.write(&mut text);
-    println!("call      {} {}", case.call, calls::of(case).name);
-    println!("case      {}", shown(text.trim_end()));
-    for (line, expected) in difference.expected.iter().enumerate() {
-        match difference.wrote.get(line) {
-            Some(wrote) if wrote == expected => println!("as both   {}", shown(wrote)),
-            wrote => {
-                println!("expected  {}", shown(expected));
-                println!(
-                    "program   {}",
-                    wrote.map_or("(no line)".into(), |w| shown(w))
-                );
-            }
+/// The difference as it stands in the script.
+fn in_script<'a>(cases: &'a [Case], at: usize, run: &Run) -> Difference<'a> {
+    let before: usize = cases[..at].iter().map(lines_of).sum();
+    let wrote = run.lines.iter().skip(before).take(lines_of(&cases[at]));
+    Difference {
+        case: &cases[at],
+        expected: expected(&cases[at]).lines(cases[at].call),
+        wrote: wrote.cloned().collect(),
+        ended: run.ended,
+    }
+}
+
+/// The case to blame is the one that differs, the one before it if that wrote too much, or a
+/// later one if the program broke off before all that it wrote was out.
+fn culprit<'a>(
+    program: &Program,
+    cases: &'a [Case],
+    at: usize,
+    ended: ExitStatus,
+) -> io::Result<Option<&'a Case>> {
+    let before = at.checked_sub(1);
+    let later = if ended.success() { 0 } else { cases.len() };
+    for index in [at].into_iter().chain(before).chain(at + 1..later) {
+        if alone(program, &cases[index])?.is_some() {
+            return Ok(Some(&cases[index]));
+        }
+    }
+    Ok(None)
+}
+
+impl Difference<'_> {
+    fn print(&self) {
+        let mut text = String::new();
+        self.case.write(&mut text);
+        println!("call      {} {}", self.case.call, calls::of(self.case).name);
+        println!("case      {}", shown(text.trim_end()));
+        for line in 0..self.expected.len().max(self.wrote.len()) {
+            print_lines(self.expected.get(line), self.wrote.get(line));
+        }
+        if !self.ended.success() {
+            println!("the program ended with {}", self.ended);
+        }
+    }
+}
+
+fn print_lines(expected: Option<&String>, wrote: Option<&String>) {
+    let text = |line: Option<&String>| line.map_or("(no line)".into(), |line| shown(line));
+    if expected == wrote {
+        println!("as both   {}", text(wrote));
+        return;
+    }
+    println!("expected  {}", text(expected));
+    println!("program   {}", text(wrote));
+    if let (Some(expected), Some(wrote)) = (expected, wrote) {
+        let words = expected.split(' ').zip(wrote.split(' ')).enumerate();
+        for (word, (expected, wrote)) in words.filter(|(_, (a, b))| a != b).take(1) {
+            println!("          word {word} is {wrote}, not {expected}");
         }
     }
 }

@@ -5,18 +5,16 @@ use crate::graph::{
     WIDTH,
 };
 use crate::rng::Rng;
-use crate::wellformed::{self, FULL, Size, garbage};
-
-/// A graph with its marks.
-pub type Marked = (Lent, Vec<u32>);
+use crate::wellformed::{self, FULL, Marked, Size, garbage};
 
 /// One way to break a graph. It may find nothing to break, as in an empty list.
 type Damage = fn(&mut Rng, &mut Marked);
 
-const DAMAGES: [Damage; 17] = [
+const DAMAGES: [Damage; 18] = [
     any_word,
     any_slice,
     any_count,
+    used_rows,
     short_marks,
     short_slice,
     boundary_in_row,
@@ -25,6 +23,7 @@ const DAMAGES: [Damage; 17] = [
     leaf_twice,
     no_leaf,
     latch_edge,
+    // five lists share it
     list_edge,
     list_edge,
     any_end,
@@ -33,11 +32,9 @@ const DAMAGES: [Damage; 17] = [
     justice_edge,
 ];
 
-pub fn graph(rng: &mut Rng, size: Size) -> Marked {
-    let graph = wellformed::graph(rng, size);
-    let marks = wellformed::marks(rng, graph.counted(ROWS));
-    let mut marked = (graph, marks);
-    if rng.one_in(800) {
+pub fn marked(rng: &mut Rng, size: Size) -> Marked {
+    let mut marked = wellformed::marked(rng, size);
+    if rng.one_in(200) {
         long_list(rng, &mut marked);
         return marked;
     }
@@ -109,6 +106,10 @@ fn any_count(rng: &mut Rng, (graph, _): &mut Marked) {
     graph.counts[slice] = hostile_count(rng, graph.room(slice));
 }
 
+fn used_rows(rng: &mut Rng, (graph, _): &mut Marked) {
+    graph.counts[ROWS] = hostile_count(rng, graph.room(ROWS));
+}
+
 fn short_marks(rng: &mut Rng, (graph, marks): &mut Marked) {
     let used = graph.counted(ROWS);
     let length = rng.pick(&[used.saturating_sub(1), used / 2, 0]);
@@ -124,13 +125,15 @@ fn short_slice(rng: &mut Rng, (graph, _): &mut Marked) {
 }
 
 /// "A gate at row i is two edge codes, each below 2·i": a word at that boundary.
-fn boundary_in_row(rng: &mut Rng, (graph, _): &mut Marked) {
-    let Some(i) = entry(rng, graph, ROWS) else {
-        return;
-    };
+pub fn boundary(rng: &mut Rng, i: usize) -> u32 {
     let bound = 2 * i as u32;
-    let words = [bound.wrapping_sub(1), bound, bound + 1, NONE - 1, NONE];
-    graph.words[ROWS][2 * i + rng.below(2)] = rng.pick(&words);
+    rng.pick(&[bound.wrapping_sub(1), bound, bound + 1, NONE - 1, NONE])
+}
+
+fn boundary_in_row(rng: &mut Rng, (graph, _): &mut Marked) {
+    if let Some(i) = entry(rng, graph, ROWS) {
+        graph.words[ROWS][2 * i + rng.below(2)] = boundary(rng, i);
+    }
 }
 
 fn first_row(rng: &mut Rng, (graph, _): &mut Marked) {

@@ -322,8 +322,7 @@ mod tests {
         for seed in 0..3_000 {
             let mut rng = Rng::new(seed);
             let size = Size::any(&mut rng);
-            let graph = wellformed::graph(&mut rng, size);
-            let marks = wellformed::marks(&mut rng, graph.counted(ROWS));
+            let (graph, marks) = wellformed::marked(&mut rng, size);
             assert_eq!(refusal(&graph, &marks), FINE, "seed {seed}, {size:?}");
         }
     }

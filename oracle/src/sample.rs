@@ -1,9 +1,9 @@
 //! The stored sample: a small script with every call, and what is expected of it.
 
-use crate::calls::{self, Call};
+use crate::calls::{self, Call, LIST};
 use crate::case::{Answer, Case};
 use crate::compare::random_case;
-use crate::graph::{INPUTS, LATCHES, LEAF, Lent, NONE, OUTPUTS, ROWS};
+use crate::graph::{EDGES, ENDS, FAIRNESS, INPUTS, LATCHES, LEAF, Lent, NONE, OUTPUTS, ROWS};
 use std::collections::HashMap;
 use std::fs;
 use std::io;
@@ -92,12 +92,9 @@ impl Sample {
         if !title.is_empty() {
             self.stdin.push_str(&format!("{title} "));
         }
-        let numbers: Vec<String> = case.scalars.iter().map(u64::to_string).collect();
-        let head = format!("{} {} {}", call.name, case.call, case.scalars.len());
-        let scalars = numbers.iter().map(|number| format!(" {number}"));
-        self.stdin.push_str(&head);
-        self.stdin.extend(scalars);
-        self.stdin.push_str(&format!(" {}\n", case.slots.len()));
+        self.stdin.push_str(&format!("{} ", call.name));
+        case.write_head(&mut self.stdin);
+        self.stdin.push('\n');
         for slot in &case.slots {
             self.stdin.push_str(&format!("    {} ", SLOTS[slot.number]));
             slot.write(&mut self.stdin);
@@ -134,43 +131,96 @@ fn kind(answer: Answer) -> (u64, u64, bool) {
 
 /// What document 01 says in words or as a marked case, where there is a call for it.
 fn marked_cases() -> Vec<(&'static str, Case)> {
-    let edge = |title, call, scalars: &[u64]| (title, Case::new(call, scalars));
-    let map = |title, edge, map: &[u32]| (title, Case::new(11, &[edge]).lend(18, map.to_vec()));
-    let check = |title, graph: &Lent| {
-        let marks = vec![7; graph.room(ROWS) + 1];
-        (title, calls::check::case(graph, marks))
-    };
-    let row = |title, call, id| {
-        let x = table_x();
-        let case = Case::new(call, &[x.counts[ROWS], id]).lend(ROWS, x.words[ROWS].clone());
-        (title, case)
-    };
+    let mut cases = edge_cases();
+    cases.extend(row_cases());
+    cases.extend(well_formed_cases());
+    cases.extend(refused_cases());
+    cases
+}
+
+fn edge_cases() -> Vec<(&'static str, Case)> {
+    let map = |edge, map: &[u32]| Case::new(11, &[edge]).lend(LIST, map.to_vec());
     vec![
-        edge("false", 6, &[0]),
-        edge("true", 6, &[1]),
-        edge("last-id", 1, &[2_147_483_647, 1]),
-        edge("above-the-last-id", 1, &[2_147_483_648, 1]),
-        edge("constant", 10, &[1]),
-        edge("no-constant", 10, &[2]),
-        map("map-to-the-last-id", 3, &[0, 2_147_483_647]),
-        map("map-above-the-last-id", 3, &[0, 2_147_483_648]),
-        map("map-outside", 4, &[0, 1]),
-        row("X", 20, 0),
-        row("X", 21, 0),
-        row("X", 20, 1),
-        row("X", 21, 1),
-        row("X", 22, 5),
-        row("X", 23, 5),
-        row("X", 24, 5),
-        row("X", 24, 2),
-        row("X", 24, 6),
-        check("X", &table_x()),
-        check("M7", &graph(&[LEAF, [2, 3]], &[1], &[], &[4])),
-        check("M10", &table_m10()),
-        check("M11", &Lent::new()),
-        check("M12", &graph(&[LEAF, LEAF], &[2], &[[1, 4, 5]], &[])),
-        check("M13", &graph(&[LEAF], &[], &[[1, 3, NONE]], &[])),
+        ("false", Case::new(6, &[0])),
+        ("true", Case::new(6, &[1])),
+        ("last-id", Case::new(1, &[2_147_483_647, 1])),
+        ("above-the-last-id", Case::new(1, &[2_147_483_648, 1])),
+        ("constant", Case::new(10, &[1])),
+        ("no-constant", Case::new(10, &[2])),
+        ("map-to-the-last-id", map(3, &[0, 2_147_483_647])),
+        ("map-above-the-last-id", map(3, &[0, 2_147_483_648])),
+        ("map-outside", map(4, &[0, 1])),
     ]
+}
+
+/// Every row call of table X: row 0, a leaf, the last gate, and the first row that is not used.
+fn row_cases() -> impl Iterator<Item = (&'static str, Case)> {
+    let x = table_x();
+    let calls = (20..=24).flat_map(|call| [0, 1, 5, 6].map(|id| (call, id)));
+    calls.map(move |(call, id)| {
+        let rows = x.words[ROWS].clone();
+        ("X", Case::new(call, &[x.counts[ROWS], id]).lend(ROWS, rows))
+    })
+}
+
+/// Marks of garbage, one more than there are rows.
+fn checked(graph: &Lent) -> Case {
+    calls::check::case(graph, vec![7; graph.room(ROWS) + 1])
+}
+
+fn well_formed_cases() -> Vec<(&'static str, Case)> {
+    let m7 = graph(&[LEAF, [2, 3]], &[1], &[], &[4]);
+    let m12 = graph(&[LEAF, LEAF], &[2], &[[1, 4, 5]], &[]);
+    let m13 = graph(&[LEAF], &[], &[[1, 3, NONE]], &[]);
+    vec![
+        ("X", checked(&table_x())),
+        ("M7", checked(&m7)),
+        ("M10", checked(&table_m10())),
+        ("M11", checked(&Lent::new())),
+        ("M12", checked(&m12)),
+        ("M13", checked(&m13)),
+    ]
+}
+
+/// Table X with one thing changed, or with two of which the first in order is answered.
+fn refused_cases() -> Vec<(&'static str, Case)> {
+    let x = table_x();
+    let changed = |change: fn(&mut Lent)| {
+        let mut graph = x.clone();
+        change(&mut graph);
+        checked(&graph)
+    };
+    let short = calls::check::case(&x, vec![7; 5]);
+    vec![
+        ("no-row-used", changed(|x| x.counts[ROWS] = 0)),
+        ("odd-last-word", changed(|x| x.words[ROWS].truncate(11))),
+        ("marks-one-short", short),
+        ("count-above-its-room", changed(|x| x.counts[FAIRNESS] = 1)),
+        ("gate-of-itself", changed(|x| x.words[ROWS][10] = 10)),
+        ("leaf-twice", changed(|x| x.words[INPUTS] = vec![1, 1])),
+        ("edges-without-sets", changed(edges_without_sets)),
+        ("ends-before-edges", changed(ends_before_edges)),
+        ("second-set", changed(second_set)),
+    ]
+}
+
+fn edges_without_sets(graph: &mut Lent) {
+    graph.words[EDGES] = vec![2];
+    graph.count_all();
+}
+
+/// The edge is bad, and so is the last end.
+fn ends_before_edges(graph: &mut Lent) {
+    graph.words[EDGES] = vec![12, 2];
+    graph.words[ENDS] = vec![1, 1];
+    graph.count_all();
+}
+
+/// A bad edge at the second place of the second set, and another in the third.
+fn second_set(graph: &mut Lent) {
+    graph.words[EDGES] = vec![2, 3, 12, 13];
+    graph.words[ENDS] = vec![1, 3, 4];
+    graph.count_all();
 }
 
 /// "Table X: rows 0, leaf 1, leaf 2, 3 = (2,4), 4 = (3,5), 5 = (7,9); inputs 1, 2; output 10."

@@ -2,17 +2,20 @@
 
 use crate::graph::{
     BADS, CONSTRAINTS, EDGES, ENDS, FAIRNESS, INPUTS, LATCHES, LEAF, Lent, NONE, OUTPUTS, ROWS,
-    SLICES,
+    WIDTH,
 };
 use crate::rng::Rng;
 
 /// The most entries of a list.
 pub const FULL: usize = 65_536;
 
+/// A graph with its marks.
+pub type Marked = (Lent, Vec<u32>);
+
 /// How large a graph is made.
 #[derive(Debug, Clone, Copy, PartialEq, Eq)]
 pub enum Size {
-    /// A number of rows, most of them at random, and short lists.
+    /// So many rows; the lists are mostly short.
     Rows(usize),
     /// One list or two with 65,536 entries.
     FullLists,
@@ -22,9 +25,9 @@ impl Size {
     /// Mostly small, rarely large.
     pub fn any(rng: &mut Rng) -> Self {
         match rng.below(1200) {
-            0 => Size::FullLists,
-            1..4 => Size::Rows(rng.between(1_000, 20_000)),
-            4..80 => Size::Rows(rng.between(60, 400)),
+            0 | 1 => Size::FullLists,
+            2..5 => Size::Rows(rng.between(1_000, 20_000)),
+            5..80 => Size::Rows(rng.between(60, 400)),
             80..200 => Size::Rows(1),
             200..600 => Size::Rows(rng.between(2, 8)),
             _ => Size::Rows(rng.between(2, 60)),
@@ -42,8 +45,15 @@ pub fn garbage(rng: &mut Rng) -> u32 {
     }
 }
 
+/// A graph with marks that are long enough.
+pub fn marked(rng: &mut Rng, size: Size) -> Marked {
+    let graph = graph(rng, size);
+    let marks = marks(rng, graph.counted(ROWS));
+    (graph, marks)
+}
+
 /// Marks that cover the used rows: garbage, and often longer than needed.
-pub fn marks(rng: &mut Rng, used: usize) -> Vec<u32> {
+fn marks(rng: &mut Rng, used: usize) -> Vec<u32> {
     let length = used + rng.pick(&[0, 0, 1, 2, 7]);
     (0..length).map(|_| garbage(rng)).collect()
 }
@@ -59,7 +69,7 @@ pub fn graph(rng: &mut Rng, size: Size) -> Lent {
 }
 
 /// The rows alone, with no room beyond them.
-pub fn rows(rng: &mut Rng, count: usize) -> Lent {
+fn rows(rng: &mut Rng, count: usize) -> Lent {
     let mut graph = Lent::new();
     let gates = rng.between(1, 9);
     while graph.room(ROWS) < count {
@@ -178,36 +188,46 @@ fn push_set(rng: &mut Rng, graph: &mut Lent) {
     graph.words[ENDS].push(end);
 }
 
-/// One leaf list or two lists of edges at the limit; not all of them, for the program's room.
+/// Lists at the limit; not all of them, for the program's room.
 fn full_lists(rng: &mut Rng) -> Lent {
-    let mut graph = Lent::new();
     match rng.below(4) {
-        0 => {
-            graph.words[ROWS].extend(LEAF.repeat(FULL));
-            graph.words[INPUTS].extend(1..=FULL as u32);
-        }
-        1 => {
-            graph.words[ROWS].extend(LEAF.repeat(FULL));
-            for input in 1..=FULL as u32 {
-                push_latch(rng, &mut graph, input);
-            }
-        }
-        2 => {
-            graph = rows(rng, 50);
-            while graph.words[ENDS].len() < FULL {
-                // one edge a set, so that both are full
-                graph.words[EDGES].push(rng.below(100) as u32);
-                let end = graph.words[EDGES].len() as u32;
-                graph.words[ENDS].push(end);
-            }
-        }
-        _ => {
-            graph = rows(rng, 50);
-            for _ in 0..2 {
-                let list = rng.pick(&[CONSTRAINTS, BADS, OUTPUTS, FAIRNESS]);
-                graph.words[list] = (0..FULL).map(|_| rng.below(100) as u32).collect();
-            }
-        }
+        0 => full_inputs(),
+        1 => full_latches(rng),
+        2 => full_justice(rng),
+        _ => full_edges(rng),
+    }
+}
+
+fn full_inputs() -> Lent {
+    let mut graph = Lent::new();
+    graph.words[ROWS].extend(LEAF.repeat(FULL));
+    graph.words[INPUTS].extend(1..=FULL as u32);
+    graph
+}
+
+fn full_latches(rng: &mut Rng) -> Lent {
+    let mut graph = Lent::new();
+    graph.words[ROWS].extend(LEAF.repeat(FULL));
+    for input in 1..=FULL as u32 {
+        push_latch(rng, &mut graph, input);
+    }
+    graph
+}
+
+/// One edge a set, so that both lists are full.
+fn full_justice(rng: &mut Rng) -> Lent {
+    let mut graph = rows(rng, 50);
+    graph.words[EDGES] = (0..FULL).map(|_| edge(rng, 50)).collect();
+    graph.words[ENDS] = (1..=FULL as u32).collect();
+    graph
+}
+
+/// One list or two.
+fn full_edges(rng: &mut Rng) -> Lent {
+    let mut graph = rows(rng, 50);
+    for _ in 0..2 {
+        let list = rng.pick(&[CONSTRAINTS, BADS, OUTPUTS, FAIRNESS]);
+        graph.words[list] = (0..FULL).map(|_| edge(rng, 50)).collect();
     }
     graph
 }
@@ -215,7 +235,7 @@ fn full_lists(rng: &mut Rng) -> Lent {
 /// Lends more than the counts say: garbage entries, and a last entry that is not whole. A list
 /// at the limit gets no entry more.
 fn spare_room(rng: &mut Rng, graph: &mut Lent) {
-    for slice in 0..SLICES {
+    for (slice, width) in WIDTH.into_iter().enumerate() {
         let (entries, part) = match (graph.room(slice) < 60_000, slice) {
             (false, LATCHES) => (0, rng.below(3)),
             (false, _) => (0, 0),
@@ -223,7 +243,7 @@ fn spare_room(rng: &mut Rng, graph: &mut Lent) {
             (true, LATCHES) => (rng.pick(&[0, 0, 1, 3]), rng.below(3)),
             (true, _) => (rng.pick(&[0, 0, 0, 1, 4]), 0),
         };
-        let spare = entries * crate::graph::WIDTH[slice] + part;
+        let spare = entries * width + part;
         graph.words[slice].extend((0..spare).map(|_| garbage(rng)));
     }
 }

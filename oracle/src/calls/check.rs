@@ -1,16 +1,14 @@
 //! Call 30: the check of a whole graph.
 
-use super::{Call, Count};
+use super::{Call, Count, MARKS, graph_counts};
 use crate::case::{Answer, Case, Outcome, Slot};
-use crate::damaged::{self, Marked};
-use crate::graph::{Lent, ROWS, SLICES, WIDTH, of_aig, to_aig};
+use crate::damaged;
+use crate::graph::{Lent, ROWS, SLICES, of_aig, to_aig};
 use crate::refuse::refusal;
 use crate::rng::Rng;
 use crate::wellformed::{self, Size};
 
 const NUMBER: u64 = 30;
-/// The slot of the marks.
-const MARKS: usize = 19;
 
 pub const CALLS: &[Call] = &[Call {
     number: NUMBER,
@@ -21,31 +19,14 @@ pub const CALLS: &[Call] = &[Call {
     ids: &[],
 }];
 
-/// The nine counts of a graph are the first scalars.
-const COUNTS: [Count; SLICES] = {
-    let mut counts = [Count {
-        slot: 0,
-        scalar: 0,
-        width: 0,
-    }; SLICES];
-    let mut slice = 0;
-    while slice < SLICES {
-        counts[slice] = Count {
-            slot: slice,
-            scalar: slice,
-            width: WIDTH[slice],
-        };
-        slice += 1;
-    }
-    counts
-};
+const COUNTS: [Count; SLICES] = graph_counts(0, 0);
 
 fn random(rng: &mut Rng, _: u64) -> Case {
     let size = Size::any(rng);
     let (graph, marks) = if rng.one_in(3) {
-        well_formed(rng, size)
+        wellformed::marked(rng, size)
     } else {
-        damaged::graph(rng, size)
+        damaged::marked(rng, size)
     };
     let mut case = case(&graph, marks);
     // a slot that is not given is lent empty too
@@ -55,12 +36,6 @@ fn random(rng: &mut Rng, _: u64) -> Case {
         rng.shuffle(&mut case.slots);
     }
     case
-}
-
-fn well_formed(rng: &mut Rng, size: Size) -> Marked {
-    let graph = wellformed::graph(rng, size);
-    let marks = wellformed::marks(rng, graph.counted(ROWS));
-    (graph, marks)
 }
 
 /// The graph and its marks, every slice given.

@@ -1,6 +1,6 @@
 //! Calls 1 to 11: edges. They see no graph.
 
-use super::Call;
+use super::{Call, LIST};
 use crate::case::{Answer, Case, Outcome};
 use crate::graph::{code, edge};
 use crate::rng::Rng;
@@ -9,8 +9,6 @@ use aig::AigEdge;
 
 /// "mapped above 2,147,483,647: 4"; no row above it has a code.
 const MOST_ID: u32 = 2_147_483_647;
-/// The slot of the map.
-const MAP: usize = 18;
 
 pub const CALLS: &[Call] = &[
     call(1, "edge::new", random_new, new),
@@ -86,7 +84,7 @@ fn random_map(rng: &mut Rng, call: u64) -> Case {
         0 => scalar_word(rng),
         _ => rng.below(2 * length + 3) as u64,
     };
-    Case::new(call, &[edge]).lend(MAP, map)
+    Case::new(call, &[edge]).lend(LIST, map)
 }
 
 fn done(case: &Case, result: u64) -> Outcome {
@@ -156,8 +154,8 @@ fn to_constant(case: &Case) -> Outcome {
 /// "`map` uses a lent map; an id outside it or mapped above 2,147,483,647: 4."
 fn map(case: &Case) -> Outcome {
     let edge = edge(case.word(0));
-    match case.slot(MAP).get(edge.node_id()) {
-        Some(&id) if id <= MOST_ID => done_edge(case, edge.map(&|id| case.slot(MAP)[id] as usize)),
+    match case.slot(LIST).get(edge.node_id()) {
+        Some(&id) if id <= MOST_ID => done_edge(case, edge.map(&|id| case.slot(LIST)[id] as usize)),
         _ => refused(case),
     }
 }

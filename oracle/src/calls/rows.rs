@@ -2,7 +2,7 @@
 
 use super::{Call, Count};
 use crate::case::{Answer, Case, Outcome};
-use crate::damaged::{self, hostile_count};
+use crate::damaged::{self, boundary, hostile_count};
 use crate::graph::{self, Kind, LEAF, ROWS, code, kind};
 use crate::refuse::bad_rows;
 use crate::rng::Rng;
@@ -39,7 +39,7 @@ fn random(rng: &mut Rng, call: u64) -> Case {
         _ => Size::Rows(rng.between(1, 20)),
     };
     let graph = match rng.below(3) {
-        0 => damaged::graph(rng, size).0,
+        0 => damaged::marked(rng, size).0,
         _ => wellformed::graph(rng, size),
     };
     let mut used = graph.counts[ROWS];
@@ -47,7 +47,11 @@ fn random(rng: &mut Rng, call: u64) -> Case {
         used = hostile_count(rng, graph.room(ROWS));
     }
     let id = random_id(rng, graph.counted(ROWS));
-    let rows = graph.words[ROWS].clone();
+    let mut rows = graph.words[ROWS].clone();
+    if rng.one_in(5) && (id as usize) < rows.len() / 2 {
+        let word = 2 * id as usize + rng.below(2);
+        rows[word] = boundary(rng, id as usize);
+    }
     Case::new(call, &[used, id]).lend(ROWS, rows)
 }
 

@@ -1,0 +1,68 @@
+-- Laws of the check of a whole graph.
+-- Assumes nothing.
+use Prim.Native.Nat.{ℕ, _≤_}
+use native.Mathlib.Omega.{arith}
+use mathlib.Core.Path.{_≡_}
+use mathlib.Core.Bool.{true, false}
+use mathlib.Core.List.{List}
+use lib.ListN.{length}
+use lib.Dec.{leb}
+use borrow.Author.Tests.{leb-true}
+use Rattle.edge.specs.declared.answer.Answer.{Answer}
+use Rattle.edge.specs.declared.answer.Answer.the-variants.{BadSizes}
+use Rattle.edge.specs.Answers.{told}
+use Rattle.edge.proofs.Tests.{both}
+use Rattle.rows.specs.Sizes.{maxEntries, fits, rowsFit}
+use Rattle.rows.proofs.Laws.{fit, rows-fit}
+use Rattle.graph.specs.Latches.{latchesLent}
+use Rattle.graph.specs.declared.Counts.{Counts}
+use Rattle.graph.specs.Graph.{Lent, sizes, Sized}
+use Rattle.graph.specs.Check.{leafStages, justiceStages, contents, cleared, checkSeen, checkCall}
+use Rattle.graph.proofs.Stages.{Refusing}
+use Rattle.graph.proofs.Stages.Refusing.{ends, also}
+
+pub sized : (g : Lent) (marks : ℕ) → sizes g marks ≡ true → Sized g marks
+unfolding sizes
+sized g marks h =
+    let a = both {b = fits (g .counts .fairness) (length (g .fairness)) maxEntries} h in
+    let b = both {b = fits (g .counts .edges) (length (g .edges)) maxEntries} (a .0) in
+    let c = both {b = fits (g .counts .sets) (length (g .ends)) maxEntries} (b .0) in
+    let d = both {b = fits (g .counts .outputs) (length (g .outputs)) maxEntries} (c .0) in
+    let e = both {b = fits (g .counts .bads) (length (g .bads)) maxEntries} (d .0) in
+    let f = both {b = fits (g .counts .constraints) (length (g .constraints)) maxEntries} (e .0) in
+    let i = both {b = fits (g .counts .latches) (latchesLent (g .latches)) maxEntries} (f .0) in
+    let j = both {b = fits (g .counts .inputs) (length (g .inputs)) maxEntries} (i .0) in
+    let k = both {a = rowsFit (g .counts .rows) (g .rows)} {b = leb (g .counts .rows) marks} (j .0) in
+    record {
+      rows = rows-fit (g .counts .rows) (g .rows) (k .0);
+      marked = leb-true _ _ (k .1);
+      inputs = fit _ _ _ (j .1);
+      latches = fit _ _ _ (i .1);
+      constraints = fit _ _ _ (f .1);
+      bads = fit _ _ _ (e .1);
+      outputs = fit _ _ _ (d .1);
+      ends = fit _ _ _ (c .1);
+      edges = fit _ _ _ (b .1);
+      fairness = fit _ _ _ (a .1);
+    }
+
+-- ---- no stage answers less than 2
+three : 2 ≤ 3
+three = omega arith
+
+pub leaves-refuse : (rows inputs latches : List ℕ) (n : Counts) → Refusing (leafStages rows inputs latches n)
+leaves-refuse rows inputs latches n = also (λ i. three) (also (λ i. three) ends)
+
+pub justice-refuses : (used : ℕ) (ends′ : List ℕ) (sets : ℕ) (edges : List ℕ) (n : ℕ) → Refusing (justiceStages used ends′ sets edges n)
+justice-refuses used ends′ sets edges n = also (λ i. three) (also (λ i. three) (also (λ i. three) ends))
+
+-- ---- the call
+module _ (g : Lent) (marks : List ℕ) where
+  pub check-refused : sizes g (length marks) ≡ false → checkSeen BadSizes marks ≡ checkCall g marks
+  unfolding checkCall
+  check-refused e = rw e
+
+  pub check-goes : (r : Answer) (after : List ℕ) → sizes g (length marks) ≡ true → told r ≡ contents g → after ≡ cleared (g .counts .rows) marks
+      → checkSeen r after ≡ checkCall g marks
+  unfolding checkCall
+  check-goes r after e t w = rw (e, t, w)

@@ -1,0 +1,5 @@
+pub mod Searching
+pub mod Stages
+pub mod Marked
+pub mod Sets
+pub mod Checked

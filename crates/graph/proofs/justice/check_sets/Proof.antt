@@ -1,0 +1,125 @@
+-- `graph::justice::check_sets` meets its contract.
+-- Assumes nothing.
+use Prim.Native.Nat.{_-_, _≤_}
+use native.Mathlib.Omega.{arith}
+use native.Mathlib.Nat.{sub-zero, le-antisymm}
+use mathlib.Core.Path.{_≡_, refl, sym, ap, _∙_}
+use lib.ListN.{getD}
+use borrow.Author.Tests.{lt-ltb, le-ltb}
+use Rattle.edge.specs.declared.answer.Answer.the-variants.{Done}
+use Rattle.edge.specs.Answers.{told, given}
+use Rattle.graph.specs.Search.{firstBad}
+use Rattle.graph.specs.Leaves.{goodEdge}
+use Rattle.graph.specs.Justice.{start}
+use Rattle.graph.specs.Check.{setStage}
+use Rattle.graph.proofs.Searching.{stops, goes-on, ended}
+use Rattle.graph.proofs.Stages.{stage-stops, stage-goes, none-left}
+use Rattle.graph.proofs.Sets.{End, start-next, end-at, set-of, covered}
+use borrow.Author.Needs.{needs}
+use Rattle.graph.proofs.justice.check_sets.Statement.{statement}
+use Rattle.graph.proofs.justice.check_sets.Tie as tie
+
+abbrev Inv-loop : tie.InvT-loop
+Inv-loop ends sets edges n used answer₀ from s end k₀ answer k = (from ≤ k) × (k ≤ end) × (answer ≡ Done) × (firstBad (goodEdge used edges) 0 n ≡ firstBad (goodEdge used edges) k (n - k))
+
+abbrev μ-loop : tie.MeasureT-loop
+μ-loop ends sets edges n used answer₀ from s end k₀ answer k = end - k
+
+abbrev Inv-sets : tie.InvT-sets
+Inv-sets ends sets edges n used answer₀ from₀ s₀ answer from s = (s ≤ sets) × (answer ≡ Done) × (from ≡ start ends s) × (firstBad (goodEdge used edges) 0 n ≡ firstBad (goodEdge used edges) from (n - from))
+
+abbrev μ-sets : tie.MeasureT-sets
+μ-sets ends sets edges n used answer₀ from₀ s₀ answer from s = sets - s
+
+-- the end of the set is good
+good-end : (c : tie.In-sets Inv-loop μ-loop Inv-sets μ-sets) → End (c .before .before .args .sets) (c .before .before .args .n) (c .before .sets .s) (start (c .before .before .args .ends .now) (c .before .sets .s)) (getD (c .before .before .args .ends .now) (c .before .sets .s) 0)
+good-end c = end-at (c .before .before .args .ends .now) (c .before .before .args .sets) (c .before .before .args .n) (c .before .before .pre .1) (c .before .sets .s) (c .sets-test .taken)
+
+sets-holds : tie.Need-sets-holds Inv-loop μ-loop Inv-sets μ-sets
+sets-holds c = (search needs, refl, refl, rw sub-zero)
+
+mul-end : tie.Need-mul-end Inv-loop μ-loop Inv-sets μ-sets
+mul-end c = search needs
+
+shared-slice-read-end : tie.Need-shared-slice-read-end Inv-loop μ-loop Inv-sets μ-sets
+shared-slice-read-end c = search needs
+
+cast-end : tie.Need-cast-end Inv-loop μ-loop Inv-sets μ-sets
+cast-end c = omega (arith, c .shared-slice-known .given (c .before .before .sets .s))
+
+loop-holds : tie.Need-loop-holds Inv-loop μ-loop Inv-sets μ-sets
+loop-holds c = (search needs, omega (arith, good-end (c .before) .rises, c .before .before .sets .inv .2), c .before .before .sets .inv .1, c .before .before .sets .inv .3)
+
+mul-if1 : tie.Need-mul-if1 Inv-loop μ-loop Inv-sets μ-sets
+mul-if1 c = omega (arith, good-end (c .before .before .before) .within)
+
+shared-slice-read-if1 : tie.Need-shared-slice-read-if1 Inv-loop μ-loop Inv-sets μ-sets
+shared-slice-read-if1 c = omega (arith, good-end (c .before .before .before .before) .within)
+
+cast-if1 : tie.Need-cast-if1 Inv-loop μ-loop Inv-sets μ-sets
+cast-if1 c = omega (arith, c .shared-slice-known2 .given (c .before .before .loop .k))
+
+sub-t21 : tie.Need-sub-t21 Inv-loop μ-loop Inv-sets μ-sets
+sub-t21 c = search needs
+
+add-t22 : tie.Need-add-t22 Inv-loop μ-loop Inv-sets μ-sets
+add-t22 c = omega (arith, good-end (c .before .before .before .before .before) .within)
+
+add-k : tie.Need-add-k Inv-loop μ-loop Inv-sets μ-sets
+add-k c = omega (arith, good-end (c .before .before .before .before .before) .within)
+
+loop-less : tie.Need-loop-less Inv-loop μ-loop Inv-sets μ-sets
+loop-less c = search needs
+
+loop-again : tie.Need-loop-again Inv-loop μ-loop Inv-sets μ-sets
+loop-again c = (search needs, search needs, c .before .before .before .loop .inv .2, c .before .before .before .loop .inv .3 ∙ goes-on _ _ _ (omega (arith, good-end (c .before .before .before .before .before) .within)) (lt-ltb _ _ (c .if1 .left)))
+
+add-s : tie.Need-add-s Inv-loop μ-loop Inv-sets μ-sets
+add-s c = search needs
+
+sets-less : tie.Need-sets-less Inv-loop μ-loop Inv-sets μ-sets
+sets-less c = search needs
+
+sets-again : tie.Need-sets-again Inv-loop μ-loop Inv-sets μ-sets
+sets-again c =
+    let k = c .before .loop .inv .3 in
+    (search needs, c .before .loop .inv .2, sym (start-next (c .before .before .before .before .before .args .ends .now) (c .before .before .before .before .sets .s)), rw (← (le-antisymm (c .before .loop .inv .1) (c .loop-test .left))) k)
+
+returns : tie.Need-returns Inv-loop μ-loop Inv-sets μ-sets
+returns c =
+    let done = le-antisymm (c .before .sets .inv .0) (c .sets-test .left) in
+    let all = c .before .sets .inv .2 ∙ covered (c .before .before .args .ends .now) (c .before .before .args .sets) (c .before .before .args .n) (c .before .before .pre .1) (c .before .sets .s) (c .before .before .pre .0 .2) done in
+    ap told (c .before .sets .inv .1) ∙ sym (stage-goes _ _ (c .before .sets .inv .3 ∙ ended _ _ _ (omega (arith, all))) ∙ none-left)
+
+returns-2 : tie.Need-returns-2 Inv-loop μ-loop Inv-sets μ-sets
+returns-2 c =
+    let here = set-of (c .before .before .before .before .before .before .before .args .ends .now) (c .before .before .before .before .before .before .before .args .sets) (c .before .before .before .before .before .before .before .args .n) (c .before .before .before .before .before .before .before .pre .1) (c .before .before .before .before .before .before .sets .s) (c .before .before .before .loop .k) (c .before .before .before .before .before .sets-test .taken) (omega (arith, c .before .before .before .before .before .before .sets .inv .2)) (c .before .before .loop-test .taken) in
+    let first = c .before .before .before .loop .inv .3 ∙ stops _ _ _ (omega (arith, good-end (c .before .before .before .before .before) .within)) (le-ltb _ _ (c .if1 .taken)) in
+    sym (stage-stops (setStage (c .before .before .before .before .before .before .before .args .used) (c .before .before .before .before .before .before .before .args .ends .now) (c .before .before .before .before .before .before .before .args .sets) (c .before .before .before .before .before .before .before .args .edges .now) (c .before .before .before .before .before .before .before .args .n)) _ first ∙ rw (here, ← (c .before .before .before .before .before .before .sets .inv .2)) refl)
+
+pub check-sets-spec : {M : Type 1} → statement M
+check-sets-spec =
+    tie.close
+    (tie.spec
+    Inv-loop
+    μ-loop
+    Inv-sets
+    μ-sets
+    sets-holds
+    mul-end
+    shared-slice-read-end
+    cast-end
+    loop-holds
+    mul-if1
+    shared-slice-read-if1
+    cast-if1
+    sub-t21
+    add-t22
+    add-k
+    loop-less
+    loop-again
+    add-s
+    sets-less
+    sets-again
+    returns
+    returns-2)

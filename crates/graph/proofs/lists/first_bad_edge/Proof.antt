@@ -1,0 +1,62 @@
+-- `graph::lists::first_bad_edge` meets its contract.
+-- Assumes nothing.
+use Prim.Native.Nat.{_-_, _≤_}
+use native.Mathlib.Omega.{arith}
+use native.Mathlib.Nat.{sub-zero}
+use mathlib.Core.Path.{_≡_, sym, _∙_}
+use borrow.Author.Tests.{lt-ltb, le-ltb}
+use Rattle.graph.specs.Search.{firstBad}
+use Rattle.graph.specs.Leaves.{goodEdge}
+use Rattle.graph.proofs.Searching.{stops, goes-on, ended}
+use borrow.Author.Needs.{needs}
+use Rattle.graph.proofs.lists.first_bad_edge.Statement.{statement}
+use Rattle.graph.proofs.lists.first_bad_edge.Tie as tie
+
+abbrev Inv-loop : tie.InvT-loop
+Inv-loop list n used i₀ i = (i ≤ n) × (firstBad (goodEdge used list) 0 n ≡ firstBad (goodEdge used list) i (n - i))
+
+abbrev μ-loop : tie.MeasureT-loop
+μ-loop list n used i₀ i = n - i
+
+loop-holds : tie.Need-loop-holds Inv-loop μ-loop
+loop-holds c = (search needs, rw sub-zero)
+
+mul-if1 : tie.Need-mul-if1 Inv-loop μ-loop
+mul-if1 c = search needs
+
+shared-slice-read-if1 : tie.Need-shared-slice-read-if1 Inv-loop μ-loop
+shared-slice-read-if1 c = search needs
+
+cast-if1 : tie.Need-cast-if1 Inv-loop μ-loop
+cast-if1 c = omega (arith, c .shared-slice-known .given (c .before .before .loop .i))
+
+returns : tie.Need-returns Inv-loop μ-loop
+returns c = sym (c .before .before .before .loop .inv .1 ∙ stops _ _ _ (c .before .before .loop-test .taken) (le-ltb _ _ (c .if1 .taken)))
+
+add-i : tie.Need-add-i Inv-loop μ-loop
+add-i c = search needs
+
+loop-less : tie.Need-loop-less Inv-loop μ-loop
+loop-less c = search needs
+
+loop-again : tie.Need-loop-again Inv-loop μ-loop
+loop-again c = (search needs, c .before .before .before .loop .inv .1 ∙ goes-on _ _ _ (c .before .before .loop-test .taken) (lt-ltb _ _ (c .if1 .left)))
+
+returns-2 : tie.Need-returns-2 Inv-loop μ-loop
+returns-2 c = sym (c .before .loop .inv .1 ∙ ended _ _ _ (c .loop-test .left))
+
+pub first-bad-edge-spec : {M : Type 1} → statement M
+first-bad-edge-spec =
+    tie.close
+    (tie.spec
+    Inv-loop
+    μ-loop
+    loop-holds
+    mul-if1
+    shared-slice-read-if1
+    cast-if1
+    returns
+    add-i
+    loop-less
+    loop-again
+    returns-2)

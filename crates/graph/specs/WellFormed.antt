@@ -1,0 +1,56 @@
+-- Document 01's paragraph "Well-formed", as a plain predicate, and what `check` says of it.
+-- Assumes nothing.
+use Prim.Native.Nat.{ℕ, _+_, _≤_, _<_}
+use mathlib.Core.Path.{_≡_}
+use mathlib.Core.Bool.{true}
+use mathlib.Core.Logic.{_⊎_}
+use mathlib.Core.List.{List, _++_}
+use lib.ListN.{length, getD, take}
+use Rattle.edge.specs.Edges.{idOf}
+use Rattle.edge.specs.Answers.{done, badSizes}
+use Rattle.rows.specs.Rows.{none, leafAt, AllRows}
+use Rattle.graph.specs.Latches.{latchAt, latchInputs}
+use Rattle.graph.specs.Graph.{Lent, Sized}
+use Rattle.graph.specs.Stages.{Names}
+use Rattle.graph.specs.Check.{stages, checkCall}
+
+-- "a used leaf"
+abbrev pub UsedLeaf : Lent → ℕ → Type 0
+UsedLeaf g x = (x < g .counts .rows) × (leafAt (g .rows) x ≡ true)
+
+-- the ids that inputs and latches list, "together"
+abbrev pub listed : Lent → List ℕ
+listed g = take (g .counts .inputs) (g .inputs) ++ latchInputs (g .latches) (g .counts .latches)
+
+-- "every edge has id below the used count"
+abbrev pub UsedEdges : Lent → List ℕ → ℕ → Type 0
+UsedEdges g list n = (i : ℕ) → i < n → idOf (getD list i 0) < g .counts .rows
+
+pub record WellFormed (g : Lent) : Type 0 where
+  -- "every used row is as above"
+  pub rows : AllRows (g .rows) (g .counts .rows)
+  -- "each input id and latch input is a used leaf"
+  pub inputs : (i : ℕ) → i < g .counts .inputs → UsedLeaf g (getD (g .inputs) i 0)
+  pub latches : (i : ℕ) → i < g .counts .latches → UsedLeaf g (latchAt (g .latches) i .input)
+  -- "and no leaf is listed twice over inputs and latches together"
+  pub once : (i j : ℕ) → i < j → j < length (listed g) → getD (listed g) i 0 ≡ getD (listed g) j 0 → ⊥
+  -- "every edge has id below the used count"
+  pub nexts : (i : ℕ) → i < g .counts .latches → idOf (latchAt (g .latches) i .next) < g .counts .rows
+  pub inits : (i : ℕ) → i < g .counts .latches → (latchAt (g .latches) i .init ≡ none) ⊎ (idOf (latchAt (g .latches) i .init) < g .counts .rows)
+  pub constraints : UsedEdges g (g .constraints) (g .counts .constraints)
+  pub bads : UsedEdges g (g .bads) (g .counts .bads)
+  pub outputs : UsedEdges g (g .outputs) (g .counts .outputs)
+  pub edges : UsedEdges g (g .edges) (g .counts .edges)
+  pub fairness : UsedEdges g (g .fairness) (g .counts .fairness)
+  -- "justice ends never fall and the last is the number of justice edges"
+  pub ends : (s : ℕ) → s + 1 < g .counts .sets → getD (g .ends) s 0 ≤ getD (g .ends) (s + 1) 0
+  pub last : (s : ℕ) → s + 1 ≡ g .counts .sets → getD (g .ends) s 0 ≡ g .counts .edges
+  pub no-sets : g .counts .sets ≡ 0 → g .counts .edges ≡ 0
+
+-- `check` answers 0 exactly when the sizes are right and the graph is well-formed, 1 exactly when the sizes are wrong, and any other answer names the first fault.
+pub record Exact (g : Lent) (marks : List ℕ) : Type 0 where
+  pub accepts : Sized g (length marks) → WellFormed g → checkCall g marks .given ≡ done
+  pub accepted : checkCall g marks .given ≡ done → Sized g (length marks) × WellFormed g
+  pub refuses : (Sized g (length marks) → ⊥) → checkCall g marks .given ≡ badSizes
+  pub refused : checkCall g marks .given ≡ badSizes → Sized g (length marks) → ⊥
+  pub names : Sized g (length marks) → (WellFormed g → ⊥) → Names (stages g) (checkCall g marks .given)

@@ -1,0 +1,29 @@
+// The latch table, flat: three words a latch.
+ghost use mathlib.Core.Path.{_≡_};
+ghost use Prim.Native.Nat.{_+_, _*_, _≤_, _<_};
+ghost use lib.ListN.{length};
+ghost use Rattle.graph.specs.Latches.{latchWords, latchAt};
+
+pub struct Latch {
+    // A leaf's id.
+    pub input: u32,
+    // An edge.
+    pub next: u32,
+    // An edge, or none.
+    pub init: u32,
+}
+
+// How many words a latch has.
+pub const LATCH_WORDS: usize = 3;
+
+pub fn latch_at(latches: &[u32], i: usize) -> Latch
+    requires { ⌜ latchWords * (i + 1) ≤ length (now latches) ⌝ }
+    ensures { λ r. ⌜ r ≡ latchAt (now (latches .entry)) i ⌝ }
+{
+    let at = LATCH_WORDS * i;
+    Latch {
+        input: latches[at],
+        next: latches[at + 1],
+        init: latches[at + 2],
+    }
+}

@@ -1,0 +1,79 @@
+// A graph as it is lent, and the check of it that every call on a whole graph begins with: answers 1, 2 and 3 of document 01.
+mod contents;
+mod justice;
+mod latch;
+mod leaves;
+mod lists;
+mod marks;
+mod search;
+mod sizes;
+
+ghost use mathlib.Core.Path.{_≡_};
+ghost use Rattle.graph.specs.Graph.{lent};
+ghost use Rattle.graph.specs.Check.{checkSeen, checkCall};
+use contents::check_contents;
+use edge::Answer;
+use sizes::sizes;
+
+// How many rows are used, and how many entries of each list. Justice is sets, each an end, and their edges.
+pub struct Counts {
+    pub rows: usize,
+    pub inputs: usize,
+    pub latches: usize,
+    pub constraints: usize,
+    pub bads: usize,
+    pub outputs: usize,
+    pub sets: usize,
+    pub edges: usize,
+    pub fairness: usize,
+}
+
+// Is this a well-formed graph? Done, or 1, 2 or 3 with the place of the first fault.
+pub fn check(
+    rows: &[u32],
+    inputs: &[u32],
+    latches: &[u32],
+    constraints: &[u32],
+    bads: &[u32],
+    outputs: &[u32],
+    ends: &[u32],
+    edges: &[u32],
+    fairness: &[u32],
+    counts: Counts,
+    marks: &mut [u32],
+) -> Answer
+    ensures { λ r. ⌜
+        checkSeen r (now (marks .exit))
+        ≡ checkCall (lent (now (rows .entry)) (now (inputs .entry)) (now (latches .entry)) (now (constraints .entry)) (now (bads .entry)) (now (outputs .entry)) (now (ends .entry)) (now (edges .entry)) (now (fairness .entry)) counts) (now (marks .entry))
+        ⌝ }
+{
+    let n = marks.len();
+    if !sizes(
+        rows,
+        inputs,
+        latches,
+        constraints,
+        bads,
+        outputs,
+        ends,
+        edges,
+        fairness,
+        counts,
+        n,
+    ) {
+        return Answer::BadSizes;
+    }
+    check_contents(
+        rows,
+        inputs,
+        latches,
+        constraints,
+        bads,
+        outputs,
+        ends,
+        edges,
+        fairness,
+        counts,
+        marks,
+    )
+}
