@@ -47,7 +47,10 @@ sized g marks h =
     }
 
 -- ---- no stage answers less than 2
-three : 2 ≤ 3
+pub two : 2 ≤ 2
+two = omega arith
+
+pub three : 2 ≤ 3
 three = omega arith
 
 pub leaves-refuse : (rows inputs latches : List ℕ) (n : Counts) → Refusing (leafStages rows inputs latches n)

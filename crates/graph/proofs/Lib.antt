@@ -3,3 +3,5 @@ pub mod Stages
 pub mod Marked
 pub mod Sets
 pub mod Checked
+pub mod Listed
+pub mod WellFormed
