@@ -87,7 +87,7 @@ pub fn constant(polarity: bool) -> u32
 pub fn is_const(e: u32) -> bool
     ensures { λ r. ⌜ r ≡ eqb (idOf e) 0 ⌝ }
 {
-    e / 2 == 0
+    node_id(e) == 0
 }
 
 pub fn is_constant(e: u32, polarity: bool) -> bool

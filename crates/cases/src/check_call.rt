@@ -1,0 +1,62 @@
+// The check of a graph, 30.
+use crate::arguments::size;
+use crate::lending;
+use crate::outcome::Outcome;
+use crate::outcome::of_answer;
+use crate::outcome::unknown;
+use crate::slots;
+use crate::slots::MARKS;
+use crate::slots::words;
+use edge::Answer;
+use graph::Counts;
+
+// The call writes the marks.
+pub fn run(
+    call: u64,
+    before: Outcome,
+    arena: &mut [u32],
+    scalars: &[u64],
+    marks: &mut [u32],
+) -> Outcome {
+    if call != 30 {
+        return before;
+    }
+    if !lending::fits(arena, MARKS, marks.len()) {
+        return unknown();
+    }
+    let n = lending::copied(arena, MARKS, marks);
+    let answer = checked(arena, scalars, &mut marks[0..n]);
+    lending::put_back(arena, MARKS, marks);
+    of_answer(answer)
+}
+
+fn checked(arena: &[u32], scalars: &[u64], marks: &mut [u32]) -> Answer {
+    graph::check(
+        words(arena, slots::ROWS),
+        words(arena, slots::INPUTS),
+        words(arena, slots::LATCHES),
+        words(arena, slots::CONSTRAINTS),
+        words(arena, slots::BADS),
+        words(arena, slots::OUTPUTS),
+        words(arena, slots::ENDS),
+        words(arena, slots::EDGES),
+        words(arena, slots::FAIRNESS),
+        counts(scalars),
+        marks,
+    )
+}
+
+// The counts of a graph, which are the first nine scalars.
+fn counts(scalars: &[u64]) -> Counts {
+    Counts {
+        rows: size(scalars, 0),
+        inputs: size(scalars, 1),
+        latches: size(scalars, 2),
+        constraints: size(scalars, 3),
+        bads: size(scalars, 4),
+        outputs: size(scalars, 5),
+        sets: size(scalars, 6),
+        edges: size(scalars, 7),
+        fairness: size(scalars, 8),
+    }
+}
