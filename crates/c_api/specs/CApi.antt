@@ -1,0 +1,20 @@
+-- What a caller in C sees of `check`: the answer's number, and the marks.
+-- Assumes nothing.
+use Prim.Native.Nat.{ℕ}
+use mathlib.Core.List.{List}
+use Rattle.graph.specs.declared.Counts.{Counts}
+use Rattle.graph.specs.Check.{CheckSeen}
+
+abbrev pub countsOf : ℕ → ℕ → ℕ → ℕ → ℕ → ℕ → ℕ → ℕ → ℕ → Counts
+countsOf rows inputs latches constraints bads outputs sets edges fairness =
+    record { rows = rows; inputs = inputs; latches = latches; constraints = constraints; bads = bads; outputs = outputs; sets = sets; edges = edges; fairness = fairness }
+
+pub record NumberSeen : Type 0 where
+  pub number : ℕ
+  pub marks : List ℕ
+
+abbrev pub numberSeen : ℕ → List ℕ → NumberSeen
+numberSeen n marks = record { number = n; marks = marks }
+
+abbrev pub numberCall : CheckSeen → NumberSeen
+numberCall s = record { number = s .given .number; marks = s .marks }
