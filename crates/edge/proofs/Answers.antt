@@ -2,11 +2,10 @@
 -- Assumes nothing.
 use mathlib.Core.Path.{_≡_, refl, sym, ap, _∙_}
 use mathlib.Core.Bool.{Bool, true, false, cond, not}
-use mathlib.Core.List.{List, _∷_}
 use lib.Dec.{eqb}
 use borrow.Author.Tests.{eq-eqb, ne-eqb, eqb-true, eqb-false, not-true, not-false}
 use Rattle.edge.specs.declared.answer.Given.{Given}
-use Rattle.edge.specs.Answers.{orElse, firstOf}
+use Rattle.edge.specs.Answers.{orElse}
 
 -- of two answers
 module _ (g h : Given) where
@@ -26,20 +25,6 @@ module _ (g h : Given) where
       go : (t : Bool) → eqb (g .number) 0 ≡ t → cond t h g .number ≡ 0 → (g .number ≡ 0) × (h .number ≡ 0)
       go true e z = (eqb-true _ _ e, z)
       go false e z = absurd (eqb-false _ _ e z)
-
--- of a list of answers, where g is the first
-module _ (g : Given) (gs : List Given) where
-  pub first-stops : (g .number ≡ 0 → ⊥) → g ≡ firstOf (g ∷ gs)
-  unfolding firstOf
-  first-stops n = sym (stops-here g (firstOf gs) n)
-
-  pub first-goes : g .number ≡ 0 → firstOf (g ∷ gs) ≡ firstOf gs
-  unfolding firstOf
-  first-goes n = goes-past g (firstOf gs) n
-
-  pub none-of-all : firstOf (g ∷ gs) .number ≡ 0 → (g .number ≡ 0) × (firstOf gs .number ≡ 0)
-  unfolding firstOf
-  none-of-all = none-of-two g (firstOf gs)
 
 -- what a test by `is_done` tells, where the answer's number and place are told by g
 module _ {t g : Given} {d : Bool} (p : t ≡ g) (e : d ≡ eqb (t .number) 0) where

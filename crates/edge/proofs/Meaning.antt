@@ -5,8 +5,12 @@ use native.Mathlib.Omega.{arith}
 use mathlib.Core.Bool.{Bool, true, false, cond, not, xor, Bool·not-not}
 use mathlib.Core.Path.{_≡_, refl, sym, _∙_}
 use borrow.Author.Tests.{eqb-true, eqb-false, eq-eqb, ne-eqb}
-use Rattle.edge.specs.Edges.{edgeOf, idOf, isComplemented, complement, complementIf, constantOf}
-use Rattle.edge.specs.Meaning.{edgeValue, Coding, Complementing, Constants}
+use mathlib.Core.List.{List}
+use lib.ListN.{length, getD}
+use lib.Dec.{ltb, leb}
+use Rattle.edge.specs.Answers.{badArgument}
+use Rattle.edge.specs.Edges.{edgeOf, idOf, isComplemented, maxId, complement, complementIf, constantOf, EdgeSeen, edgeDone, edgeRefused, newCall, mapCall}
+use Rattle.edge.specs.Meaning.{edgeValue, Coding, Complementing, Mapping, Constants}
 
 -- ---- a code is its row and its sign
 row : (id : ℕ) (c : Bool) → idOf (edgeOf id c) ≡ id
@@ -51,9 +55,9 @@ pub complement-sign : (e : ℕ) → isComplemented (complement e) ≡ not (isCom
 unfolding complement
 complement-sign e = sign (idOf e) (not (isComplemented e))
 
-turns : (v : ℕ → Bool) (e : ℕ) → edgeValue v (complement e) ≡ not (edgeValue v e)
+negates : (v : ℕ → Bool) (e : ℕ) → edgeValue v (complement e) ≡ not (edgeValue v e)
 unfolding edgeValue
-turns v e = rw (complement-sign e, complement-row e) (go (isComplemented e) (v (idOf e)))
+negates v e = rw (complement-sign e, complement-row e) (go (isComplemented e) (v (idOf e)))
   where
     go : (c b : Bool) → cond (not c) (not b) b ≡ not (cond c (not b) b)
     go true b = sym (Bool·not-not b)
@@ -74,11 +78,32 @@ composes false true e = refl
 composes false false e = refl
 
 if-means : (v : ℕ → Bool) (a : Bool) (e : ℕ) → edgeValue v (complementIf a e) ≡ cond a (not (edgeValue v e)) (edgeValue v e)
-if-means v true e = turns v e
+if-means v true e = negates v e
 if-means v false e = refl
 
 pub complementing : Complementing
-complementing = record { row = complement-row; turns = turns; twice = twice; composes = composes; if-means = if-means }
+complementing = record { row = complement-row; negates = negates; twice = twice; composes = composes; if-means = if-means }
+
+-- ---- a done map gives the edge of the row that it maps to
+mapped : (e : ℕ) (map : List ℕ) → mapCall e map .given .number ≡ 0 → mapCall e map .edge ≡ edgeOf (getD map (idOf e) 0) (isComplemented e)
+unfolding mapCall newCall
+mapped e map = go (ltb (idOf e) (length map)) (leb (getD map (idOf e) 0) maxId)
+  where
+    to : EdgeSeen
+    to = edgeDone (edgeOf (getD map (idOf e) 0) (isComplemented e))
+
+    go : (s t : Bool) → cond s (cond t to (edgeRefused badArgument)) (edgeRefused badArgument) .given .number ≡ 0
+        → cond s (cond t to (edgeRefused badArgument)) (edgeRefused badArgument) .edge ≡ edgeOf (getD map (idOf e) 0) (isComplemented e)
+    go true true z = refl
+    go true false z = absurd (omega arith)
+    go false t z = absurd (omega arith)
+
+pub mapping : Mapping
+mapping =
+    record {
+      row = λ e map z. rw (mapped e map z) (row (getD map (idOf e) 0) (isComplemented e));
+      sign = λ e map z. rw (mapped e map z) (sign (getD map (idOf e) 0) (isComplemented e));
+    }
 
 -- ---- constants
 constant-means : (v : ℕ → Bool) → v 0 ≡ false → (b : Bool) → edgeValue v (constantOf b) ≡ b

@@ -1,8 +1,7 @@
 -- The number and the place of each answer, as the table of document 01 has them.
 -- Assumes nothing.
 use Prim.Native.Nat.{ℕ}
-use mathlib.Core.Bool.{cond}
-use mathlib.Core.List.{List, [], _∷_}
+use mathlib.Core.Bool.{Bool, cond}
 use mathlib.Core.Path.{_≡_, refl, sym, ap, _∙_}
 use lib.Dec.{eqb}
 use Rattle.edge.specs.declared.answer.Answer.{Answer}
@@ -63,11 +62,12 @@ told-injective r s e = sym (answer-told r) ∙ (ap answerOf e ∙ answer-told s)
 unfoldable pub orElse : Given → Given → Given
 orElse g h = cond (eqb (g .number) 0) h g
 
--- the first of the answers that is not done
-unfoldable pub firstOf : List Given → Given
-firstOf [] = done
-firstOf (g ∷ gs) = orElse g (firstOf gs)
-
 -- A promise that is one equation, `seen ≡ f lent`, determines what is seen.
 pub determined : {L S : Type 0} (f : L → S) (l : L) (r s : S) → r ≡ f l → s ≡ f l → r ≡ s
 determined f l r s p q = p ∙ sym q
+
+pub told-determined : (a : Answer) (r s : Given) → r ≡ told a → s ≡ told a → r ≡ s
+told-determined = determined told
+
+pub is-done-determined : (a : Answer) (r s : Bool) → r ≡ eqb (told a .number) 0 → s ≡ eqb (told a .number) 0 → r ≡ s
+is-done-determined = determined (λ (a : Answer). eqb (told a .number) 0)

@@ -86,7 +86,7 @@ newCall id complemented = cond (leb id maxId) (edgeDone (edgeOf id complemented)
 unfoldable pub mapCall : ℕ → List ℕ → EdgeSeen
 mapCall e map = cond (ltb (idOf e) (length map)) (newCall (getD map (idOf e) 0) (isComplemented e)) (edgeRefused badArgument)
 
--- ---- any two results that a promise allows are equal
+-- ---- any two results that a promise allows are equal, call by call
 pub bool-determined : {L : Type 0} (f : L → BoolSeen) (l : L) (r s : BoolAnswer) → boolSeen r ≡ f l → boolSeen s ≡ f l → (r .answer ≡ s .answer) × (r .value ≡ s .value)
 bool-determined f l r s p q =
     let t = determined f l (boolSeen r) (boolSeen s) p q in
@@ -96,3 +96,36 @@ pub edge-determined : {L : Type 0} (f : L → EdgeSeen) (l : L) (r s : EdgeAnswe
 edge-determined f l r s p q =
     let t = determined f l (edgeSeen r) (edgeSeen s) p q in
     (told-injective (r .answer) (s .answer) (ap (λ (x : EdgeSeen). x .given) t), ap (λ (x : EdgeSeen). x .edge) t)
+
+pub new-determined : (id : ℕ) (c : Bool) (r s : EdgeAnswer) → edgeSeen r ≡ newCall id c → edgeSeen s ≡ newCall id c → (r .answer ≡ s .answer) × (r .edge ≡ s .edge)
+new-determined id = edge-determined (newCall id)
+
+pub map-determined : (e : ℕ) (map : List ℕ) (r s : EdgeAnswer) → edgeSeen r ≡ mapCall e map → edgeSeen s ≡ mapCall e map → (r .answer ≡ s .answer) × (r .edge ≡ s .edge)
+map-determined e = edge-determined (mapCall e)
+
+pub to-constant-determined : (e : ℕ) (r s : BoolAnswer) → boolSeen r ≡ toConstantCall e → boolSeen s ≡ toConstantCall e → (r .answer ≡ s .answer) × (r .value ≡ s .value)
+to-constant-determined = bool-determined toConstantCall
+
+pub node-id-determined : (e r s : ℕ) → r ≡ idOf e → s ≡ idOf e → r ≡ s
+node-id-determined = determined idOf
+
+pub compl-determined : (e : ℕ) (r s : Bool) → r ≡ isComplemented e → s ≡ isComplemented e → r ≡ s
+compl-determined = determined isComplemented
+
+pub not-determined : (e r s : ℕ) → r ≡ complement e → s ≡ complement e → r ≡ s
+not-determined = determined complement
+
+pub not-if-determined : (flip : Bool) (e r s : ℕ) → r ≡ complementIf flip e → s ≡ complementIf flip e → r ≡ s
+not-if-determined flip = determined (complementIf flip)
+
+pub constant-determined : (polarity : Bool) (r s : ℕ) → r ≡ constantOf polarity → s ≡ constantOf polarity → r ≡ s
+constant-determined = determined constantOf
+
+pub is-const-determined : (e : ℕ) (r s : Bool) → r ≡ eqb (idOf e) 0 → s ≡ eqb (idOf e) 0 → r ≡ s
+is-const-determined = determined (λ (e : ℕ). eqb (idOf e) 0)
+
+pub is-constant-determined : (e : ℕ) (polarity r s : Bool) → r ≡ eqb e (constantOf polarity) → s ≡ eqb e (constantOf polarity) → r ≡ s
+is-constant-determined e = determined (λ (b : Bool). eqb e (constantOf b))
+
+pub try-to-constant-determined : (e : ℕ) (r s : MaybeConstant) → r ≡ whichConstant e → s ≡ whichConstant e → r ≡ s
+try-to-constant-determined = determined whichConstant

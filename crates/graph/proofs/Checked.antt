@@ -1,8 +1,7 @@
 -- Laws of the check of a whole graph.
 -- Assumes nothing.
-use Prim.Native.Nat.{ℕ, _≤_}
-use native.Mathlib.Omega.{arith}
-use mathlib.Core.Path.{_≡_}
+use Prim.Native.Nat.{ℕ}
+use mathlib.Core.Path.{_≡_, refl}
 use mathlib.Core.Bool.{true, false}
 use mathlib.Core.List.{List}
 use lib.ListN.{length}
@@ -16,13 +15,13 @@ use Rattle.rows.specs.Sizes.{maxEntries, fits, rowsFit}
 use Rattle.rows.proofs.Laws.{fit, rows-fit}
 use Rattle.graph.specs.Latches.{latchesLent}
 use Rattle.graph.specs.declared.Counts.{Counts}
-use Rattle.graph.specs.Graph.{Lent, sizes, Sized}
+use Rattle.graph.specs.Graph.{Lent, sizesRight, Sized}
 use Rattle.graph.specs.Check.{leafStages, justiceStages, contents, cleared, checkSeen, checkCall}
-use Rattle.graph.proofs.Stages.{Refusing}
-use Rattle.graph.proofs.Stages.Refusing.{ends, also}
+use Rattle.graph.proofs.Stages.{Entries}
+use Rattle.graph.proofs.Stages.Entries.{ends, also}
 
-pub sized : (g : Lent) (marks : ℕ) → sizes g marks ≡ true → Sized g marks
-unfolding sizes
+pub sized : (g : Lent) (marks : ℕ) → sizesRight g marks ≡ true → Sized g marks
+unfolding sizesRight
 sized g marks h =
     let a = both {b = fits (g .counts .fairness) (length (g .fairness)) maxEntries} h in
     let b = both {b = fits (g .counts .edges) (length (g .edges)) maxEntries} (a .0) in
@@ -46,26 +45,20 @@ sized g marks h =
       fairness = fit _ _ _ (a .1);
     }
 
--- ---- no stage answers less than 2
-pub two : 2 ≤ 2
-two = omega arith
+-- ---- the stages of lists answer by 3
+pub leaf-entries : (rows inputs latches : List ℕ) (n : Counts) → Entries (leafStages rows inputs latches n)
+leaf-entries rows inputs latches n = also (λ i. refl) (also (λ i. refl) ends)
 
-pub three : 2 ≤ 3
-three = omega arith
-
-pub leaves-refuse : (rows inputs latches : List ℕ) (n : Counts) → Refusing (leafStages rows inputs latches n)
-leaves-refuse rows inputs latches n = also (λ i. three) (also (λ i. three) ends)
-
-pub justice-refuses : (used : ℕ) (ends′ : List ℕ) (sets : ℕ) (edges : List ℕ) (n : ℕ) → Refusing (justiceStages used ends′ sets edges n)
-justice-refuses used ends′ sets edges n = also (λ i. three) (also (λ i. three) (also (λ i. three) ends))
+pub justice-entries : (used : ℕ) (ends′ : List ℕ) (sets : ℕ) (edges : List ℕ) (n : ℕ) → Entries (justiceStages used ends′ sets edges n)
+justice-entries used ends′ sets edges n = also (λ i. refl) (also (λ i. refl) (also (λ i. refl) ends))
 
 -- ---- the call
 module _ (g : Lent) (marks : List ℕ) where
-  pub check-refused : sizes g (length marks) ≡ false → checkSeen BadSizes marks ≡ checkCall g marks
+  pub check-refused : sizesRight g (length marks) ≡ false → checkSeen BadSizes marks ≡ checkCall g marks
   unfolding checkCall
   check-refused e = rw e
 
-  pub check-goes : (r : Answer) (after : List ℕ) → sizes g (length marks) ≡ true → told r ≡ contents g → after ≡ cleared (g .counts .rows) marks
+  pub check-goes : (r : Answer) (after : List ℕ) → sizesRight g (length marks) ≡ true → told r ≡ contents g → after ≡ cleared (g .counts .rows) marks
       → checkSeen r after ≡ checkCall g marks
   unfolding checkCall
   check-goes r after e t w = rw (e, t, w)

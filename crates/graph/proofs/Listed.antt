@@ -4,20 +4,17 @@ use Prim.Native.Nat.{ℕ, zero, suc, _+_, _≤_, _<_}
 use native.Mathlib.Omega.{arith}
 use native.Mathlib.Nat.{eq-or-lt-of-le}
 use mathlib.Core.Path.{_≡_, refl, sym, ap, _∙_}
-use mathlib.Core.Bool.{Bool, true, false, not, _&&_, _||_}
+use mathlib.Core.Bool.{Bool, true, false, not, _&&_}
 use mathlib.Core.Logic.{⊎-elim}
 use mathlib.Core.List.{List, [], _∷_, _++_}
 use lib.ListN.{length, getD, take, length-append, List·getD-append}
 use lib.Seq.{length-take-le, take-all, take-append-le, take-append-add, getD-append-add, getD-at, getD-take, take-take}
 use lib.Dec.{ltb, eqb}
 use borrow.Author.Tests.{ltb-true, lt-ltb, eqb-true, eq-eqb, not-true}
-use Rattle.edge.proofs.Tests.{both, either}
+use Rattle.edge.proofs.Tests.{both, either, or-right, false-true}
 use Rattle.rows.specs.Rows.{leafAt}
 use Rattle.graph.specs.Latches.{latchAt, latchInputs}
 use Rattle.graph.specs.Leaves.{member, freeLeaf}
-
-false-true : false ≡ true → ⊥
-false-true h = let z : _≡_ {A = ℕ} 0 1 = cc in omega arith
 
 -- ---- members by their place
 -- x stands at a place of l
@@ -41,11 +38,7 @@ is-member : (l : List ℕ) (k : ℕ) → k < length l → member (getD l k 0) l 
 unfolding member
 is-member [] k h = absurd (omega arith)
 is-member (y ∷ l) zero h = rw (eq-eqb y y refl)
-is-member (y ∷ l) (suc k) h = rw (is-member l k (omega arith)) (or-right (eqb (getD l k 0) y))
-  where
-    or-right : (b : Bool) → b || true ≡ true
-    or-right true = refl
-    or-right false = refl
+is-member (y ∷ l) (suc k) h = or-right (eqb (getD l k 0) y) (is-member l k (omega arith))
 
 -- what stands at j is not among those before it exactly if it differs from each of them
 module _ (l : List ℕ) (j : ℕ) where

@@ -4,21 +4,22 @@ use Prim.Native.Nat.{ℕ, zero, suc, _+_, _-_, _≤_, _<_}
 use native.Mathlib.Omega.{arith}
 use native.Mathlib.Numerals.{add-one}
 use native.Mathlib.Nat.{eq-or-lt-of-le}
-use mathlib.Core.Path.{_≡_}
-use mathlib.Core.Bool.{true, not, _&&_, _||_}
+use mathlib.Core.Path.{_≡_, refl}
+use mathlib.Core.Bool.{Bool, true, not, _&&_, _||_}
 use mathlib.Core.Logic.{⊎-elim}
 use mathlib.Core.List.{List, [], _∷_}
 use lib.ListN.{getD}
 use lib.Dec.{ltb, leb, eqb}
-use borrow.Author.Tests.{leb-true, eqb-true, eq-eqb, ne-eqb, le-leb, lt-leb, lt-ltb}
+use borrow.Author.Tests.{leb-true, leb-false, eqb-true, eq-eqb, ne-eqb, le-leb, lt-leb, lt-ltb}
 use Rattle.edge.specs.Answers.{given, done}
 use Rattle.edge.proofs.Tests.{both, lt-or-le}
-use Rattle.graph.specs.declared.search.Found.the-variants.{Nothing}
+use Rattle.graph.specs.declared.search.Found.{Found}
+use Rattle.graph.specs.declared.search.Found.the-variants.{At, Nothing}
 use Rattle.graph.specs.Search.{firstBad}
-use Rattle.graph.specs.Justice.{start, endIs, goodEnd, setOf}
+use Rattle.graph.specs.Justice.{start, endIs, goodEnd, foundOr, setOf, InSet}
 use Rattle.graph.specs.Stages.{found, firstFault}
 use Rattle.graph.specs.Check.{noSetStage, endStage, setStage, justiceStages}
-use Rattle.graph.proofs.Searching.{all-good, first-is, nothing-bad}
+use Rattle.graph.proofs.Searching.{all-good, is-first, first-is, nothing-bad}
 use Rattle.graph.proofs.Stages.{stage-goes}
 
 pub start-next : (ends : List ℕ) (s : ℕ) → start ends (s + 1) ≡ getD ends s 0
@@ -71,6 +72,33 @@ module _ (ends : List ℕ) (sets n : ℕ) (good : firstBad (goodEnd ends sets n)
   pub covered : (s : ℕ) → 0 < sets → s ≡ sets → start ends s ≡ n
   covered zero p q = absurd (omega arith)
   covered (suc s) p q = end-at s (omega arith) .last (omega arith)
+
+-- ---- where all ends are good, every edge lies in the set that is named
+module _ (ends : List ℕ) (sets n k : ℕ) (good : firstBad (goodEnd ends sets n) 0 sets ≡ Nothing) (l : k < n) where
+  abbrev ended : ℕ → Bool
+  ended s = leb (getD ends s 0) k
+
+  -- a set starts at or below k where the one before it ends so
+  starts : (s : ℕ) → ((r : ℕ) → 0 ≤ r → r < s → ended r ≡ true) → start ends s ≤ k
+  starts zero before = omega arith
+  starts (suc s) before = leb-true (getD ends s 0) k (before s (omega arith) (omega arith))
+
+  -- the last set does not end at or below k
+  not-all : 0 < sets → firstBad ended 0 sets ≡ Nothing → ⊥
+  not-all p e =
+      let s = sets - 1 in
+      let h = leb-true (getD ends s 0) k (all-good ended sets 0 e s (omega arith) (omega arith)) in
+      omega (arith, end-at ends sets n good s (omega arith) .last (omega arith))
+
+  pub in-set : 0 < sets → InSet ends sets k (setOf ends sets k)
+  unfolding setOf
+  in-set p = go (firstBad ended 0 sets) refl
+    where
+      go : (f : Found) → firstBad ended 0 sets ≡ f → InSet ends sets k (foundOr sets f)
+      go (At s) e =
+          let f = is-first ended sets 0 s e in
+          record { a-set = omega (arith, f .below); from = starts s (f .before); below = leb-false (getD ends s 0) k (f .bad) }
+      go Nothing e = absurd (not-all p e)
 
 -- ---- the three stages of justice
 module _ (used : ℕ) (ends : List ℕ) (sets : ℕ) (edges : List ℕ) (n : ℕ) where

@@ -1,6 +1,6 @@
 -- Laws of stages: where the check stops, and that its answer names the first fault.
 -- Assumes nothing.
-use Prim.Native.Nat.{ℕ, _≤_, _<_}
+use Prim.Native.Nat.{ℕ, _<_}
 use native.Mathlib.Omega.{arith}
 use mathlib.Core.Path.{_≡_, refl, sym, _∙_}
 use mathlib.Core.Bool.{true, false}
@@ -13,7 +13,7 @@ use Rattle.edge.proofs.Answers.{stops-here, goes-past}
 use Rattle.graph.specs.declared.search.Found.{Found}
 use Rattle.graph.specs.declared.search.Found.the-variants.{At, Nothing}
 use Rattle.graph.specs.Stages.{Stage, orLater, found, firstFault, Clean, AllClean, Names}
-use Rattle.graph.specs.Stages.AllClean.{none, more}
+use Rattle.graph.specs.Stages.AllClean.{nothing, more}
 use Rattle.graph.specs.Stages.Names.{here, later}
 use Rattle.graph.proofs.Searching.{all-good, is-first, nothing-bad}
 
@@ -31,13 +31,13 @@ pub none-left : firstFault [] ≡ done
 unfolding firstFault
 none-left = refl
 
--- ---- a refusal has a number of 2 or more
-pub data Refusing : List Stage → Type 0 where
-  ends : Refusing []
-  also : {s : Stage} {ss : List Stage} → ((i : ℕ) → 2 ≤ s .bad i .number) → Refusing ss → Refusing (s ∷ ss)
+-- ---- stages of entries, which are answered by 3
+pub data Entries : List Stage → Type 0 where
+  ends : Entries []
+  also : {s : Stage} {ss : List Stage} → ((i : ℕ) → s .bad i .number ≡ 3) → Entries ss → Entries (s ∷ ss)
 
 -- some stages, then others
-first-append : {ss : List Stage} (ts : List Stage) → Refusing ss → firstFault (ss ++ ts) ≡ orElse (firstFault ss) (firstFault ts)
+first-append : {ss : List Stage} (ts : List Stage) → Entries ss → firstFault (ss ++ ts) ≡ orElse (firstFault ss) (firstFault ts)
 unfolding firstFault
 first-append ts ends = sym (goes-past done (firstFault ts) refl)
 first-append ts (also {s} {ss} r rs) = go (found s) (first-append ts rs)
@@ -46,7 +46,7 @@ first-append ts (also {s} {ss} r rs) = go (found s) (first-append ts rs)
     go (At i) e = sym (stops-here (s .bad i) (firstFault ts) (λ (z : s .bad i .number ≡ 0). omega (arith, r i)))
     go Nothing e = e
 
-module _ {ss : List Stage} (ts : List Stage) (r : Refusing ss) where
+module _ {ss : List Stage} (ts : List Stage) (r : Entries ss) where
   pub join-stops : eqb (firstFault ss .number) 0 ≡ false → firstFault (ss ++ ts) ≡ firstFault ss
   unfolding orElse
   join-stops e = first-append ts r ∙ rw e
@@ -61,7 +61,7 @@ clean s e i l = all-good (s .good) (s .count) 0 e i (omega arith) (omega arith)
 
 pub judged : (ss : List Stage) → AllClean ss ⊎ Names ss (firstFault ss)
 unfolding firstFault
-judged [] = inl none
+judged [] = inl nothing
 judged (s ∷ ss) = go (found s) refl (judged ss)
   where
     go : (f : Found) → found s ≡ f → AllClean ss ⊎ Names ss (firstFault ss) → AllClean (s ∷ ss) ⊎ Names (s ∷ ss) (orLater s f (firstFault ss))
@@ -74,9 +74,9 @@ judged (s ∷ ss) = go (found s) refl (judged ss)
 
 pub clean-done : {ss : List Stage} → AllClean ss → firstFault ss ≡ done
 unfolding firstFault
-clean-done none = refl
+clean-done nothing = refl
 clean-done (more {s} {ss} c all) = rw (nothing-bad (s .good) (s .count) 0 (λ j l h. c j (omega arith))) (clean-done all)
 
-pub named-refuses : {ss : List Stage} {g : Given} → Refusing ss → Names ss g → 2 ≤ g .number
-named-refuses (also r rs) (here i l b before) = r i
-named-refuses (also r rs) (later c n) = named-refuses rs n
+pub named-entry : {ss : List Stage} {g : Given} → Entries ss → Names ss g → g .number ≡ 3
+named-entry (also r rs) (here i l b before) = r i
+named-entry (also r rs) (later c n) = named-entry rs n

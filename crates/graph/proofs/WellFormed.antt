@@ -4,31 +4,32 @@ use Prim.Native.Nat.{ℕ, zero, suc, _+_, _-_, _≤_, _<_}
 use native.Mathlib.Omega.{arith}
 use native.Mathlib.Numerals.{add-one}
 use mathlib.Core.Path.{_≡_, refl, sym, ap, _∙_}
-use mathlib.Core.Bool.{Bool, true, false, not, _||_}
+use mathlib.Core.Bool.{Bool, true, false, cond, not, _||_}
 use mathlib.Core.Logic.{_⊎_, inl, inr, ⊎-elim}
 use mathlib.Core.List.{List, _++_}
 use lib.ListN.{length, getD, take}
 use lib.Dec.{ltb, eqb}
 use borrow.Author.Tests.{ltb-true, lt-ltb, le-leb, eqb-true, eq-eqb}
 use Rattle.edge.specs.declared.answer.Given.{Given}
-use Rattle.edge.specs.Answers.{badSizes}
+use Rattle.edge.specs.Answers.{done, badSizes}
 use Rattle.edge.specs.Edges.{idOf}
-use Rattle.edge.proofs.Tests.{both, both-true, either, lt-or-le}
+use Rattle.edge.proofs.Tests.{both, both-true, either, or-right, false-true, lt-or-le}
 use Rattle.rows.specs.Sizes.{fits, Fit, rowsFit}
-use Rattle.rows.specs.Rows.{none}
+use Rattle.rows.specs.Rows.{none, AllRows}
 use Rattle.graph.specs.declared.latch.Latch.{Latch}
 use Rattle.graph.specs.Stages.{AllClean, Names, firstFault}
-use Rattle.graph.specs.Stages.AllClean.{none as nothing, more}
+use Rattle.graph.specs.Stages.AllClean.{nothing, more}
+use Rattle.graph.specs.Stages.Names.{here, later}
 use Rattle.graph.specs.Latches.{latchAt, latchInputs}
 use Rattle.graph.specs.Leaves.{usedEdge, goodEdge, freeLeaf, goodInput, latchEdges, goodLatch}
 use Rattle.graph.specs.Justice.{start, endIs, goodEnd}
-use Rattle.graph.specs.Graph.{Lent, sizes, Sized}
-use Rattle.graph.specs.Check.{stages, contents, checkCall}
+use Rattle.graph.specs.Graph.{Lent, sizesRight, Sized}
+use Rattle.graph.specs.Check.{stages, contents, cleared, CheckSeen, checkCall}
 use Rattle.graph.specs.WellFormed.{listed, UsedEdges, WellFormed, Exact}
-use Rattle.graph.proofs.Stages.{Refusing, judged, clean-done, named-refuses}
-use Rattle.graph.proofs.Stages.Refusing.{ends, also}
+use Rattle.graph.proofs.Stages.{judged, clean-done, named-entry}
+use Rattle.graph.proofs.Stages.Entries.{ends, also}
 use Rattle.graph.proofs.Sets.{End, end-is, start-next}
-use Rattle.graph.proofs.Checked.{sized, two, three}
+use Rattle.graph.proofs.Checked.{sized}
 use Rattle.graph.proofs.Listed.{all-long, input-at, input-before, latch-at, latch-before, new-differs, differs-new, Free, free, is-free}
 
 -- ---- sizes, the other way round
@@ -36,8 +37,8 @@ fits-true : {count room limit : ℕ} → Fit count room limit → fits count roo
 unfolding fits
 fits-true {count} {room} {limit} f = rw (le-leb count room (f .within), le-leb room limit (f .limited))
 
-sizes-true : (g : Lent) (marks : ℕ) → Sized g marks → sizes g marks ≡ true
-unfolding sizes rowsFit
+sizes-true : (g : Lent) (marks : ℕ) → Sized g marks → sizesRight g marks ≡ true
+unfolding sizesRight rowsFit
 sizes-true g marks s =
     both-true (both-true (both-true (both-true (both-true (both-true (both-true (both-true (both-true
     (both-true (lt-ltb 0 (g .counts .rows) (s .rows .some)) (fits-true (s .rows .fit)))
@@ -71,10 +72,6 @@ latch-edges used l h =
       next = ltb-true _ _ (t .0);
       init = ⊎-elim (λ e. inl (eqb-true (l .init) none e)) (λ u. inr (ltb-true (idOf (l .init)) used u)) (either {a = eqb (l .init) none} (t .1));
     }
-
-or-right : (a : Bool) {b : Bool} → b ≡ true → a || b ≡ true
-or-right true h = refl
-or-right false h = h
 
 latch-good : (used : ℕ) (l : Latch) → LatchEdges used l → latchEdges used l ≡ true
 unfolding latchEdges
@@ -204,53 +201,107 @@ module _ (g : Lent) (m : ℕ) (size : Sized g m) where
           (latch-good (g .counts .rows) (latchAt (g .latches) i) (record { next = w .nexts i l; init = w .inits i l }))
 
 -- ---- the call
-all-refuse : (g : Lent) → Refusing (stages g)
-all-refuse g =
-    also (λ i. two)
-    (also (λ i. three) (also (λ i. three) (also (λ i. three) (also (λ i. three) (also (λ i. three) (also (λ i. three) (also (λ i. three) (also (λ i. three) (also (λ i. three) ends)))))))))
+module _ (g : Lent) where
+  abbrev Rows : Type 0
+  Rows = AllRows (g .rows) (g .counts .rows)
+
+  -- the first fault is a row, or all rows are good and it is an entry
+  row-or-entry : {p : Given} → Names (stages g) p → ((p .number ≡ 2) × (Rows → ⊥)) ⊎ ((p .number ≡ 3) × Rows)
+  row-or-entry (here i l b before) = inl (refl, λ all. false-true (sym b ∙ all i l))
+  row-or-entry (later rows names) =
+      inr (named-entry (also (λ i. refl) (also (λ i. refl) (also (λ i. refl) (also (λ i. refl) (also (λ i. refl) (also (λ i. refl) (also (λ i. refl) (also (λ i. refl) (also (λ i. refl) ends))))))))) names, rows)
+
+-- what is known of a graph by its answer
+data Judged (g : Lent) (marks : List ℕ) : Given → Type 0 where
+  unsized : (Sized g (length marks) → ⊥) → Judged g marks badSizes
+  sound : Sized g (length marks) → WellFormed g → Judged g marks done
+  faulty : {p : Given} → Sized g (length marks) → (WellFormed g → ⊥) → Names (stages g) p → Judged g marks p
 
 module _ (g : Lent) (marks : List ℕ) where
-  sized-answer : sizes g (length marks) ≡ true → checkCall g marks .given ≡ firstFault (stages g)
+  judgement : Judged g marks (checkCall g marks .given)
   unfolding checkCall contents
-  sized-answer e = rw e
-
-  unsized-answer : sizes g (length marks) ≡ false → checkCall g marks .given ≡ badSizes
-  unfolding checkCall
-  unsized-answer e = rw e
-
-  -- by the sizes
-  either-way : {A : Type 0} → (sizes g (length marks) ≡ true → A) → (sizes g (length marks) ≡ false → A) → A
-  either-way {A} fit unfit = go (sizes g (length marks)) refl
+  judgement = go (sizesRight g (length marks)) refl
     where
-      go : (t : Bool) → sizes g (length marks) ≡ t → A
-      go true e = fit e
-      go false e = unfit e
+      in-sized : Sized g (length marks) → AllClean (stages g) ⊎ Names (stages g) (firstFault (stages g)) → Judged g marks (firstFault (stages g))
+      in-sized s (inl all) = rw (clean-done all) (sound s (well-formed g (length marks) s all))
+      in-sized s (inr names) = faulty s (λ w. not-both names (clean-done (all-clean g (length marks) s w))) names
+        where
+          not-both : {p : Given} → Names (stages g) p → p ≡ done → ⊥
+          not-both names e = ⊎-elim (λ t. no-two (sym (t .0) ∙ number e)) (λ t. no-three (sym (t .0) ∙ number e)) (row-or-entry g names)
+            where
+              number : {p q : Given} → p ≡ q → p .number ≡ q .number
+              number e = ap (λ (x : Given). x .number) e
 
-  -- a graph of right sizes whose answer is below 2 is well-formed
-  accepted-is : sizes g (length marks) ≡ true → firstFault (stages g) .number ≡ 0 → WellFormed g
-  accepted-is e z =
-      ⊎-elim (well-formed g (length marks) (sized g (length marks) e)) (λ names. absurd (omega (arith, named-refuses (all-refuse g) names))) (judged (stages g))
+              no-two : _≡_ {A = ℕ} 2 0 → ⊥
+              no-two e = omega arith
+
+              no-three : _≡_ {A = ℕ} 3 0 → ⊥
+              no-three e = omega arith
+
+      go : (t : Bool) → sizesRight g (length marks) ≡ t
+          → Judged g marks (cond {A = CheckSeen} t (record { given = firstFault (stages g); marks = cleared (g .counts .rows) marks }) (record { given = badSizes; marks = marks }) .given)
+      go true e = in-sized (sized g (length marks) e) (judged (stages g))
+      go false e = unsized (λ s. false-true (sym e ∙ sizes-true g (length marks) s))
 
   pub exact : Exact g marks
   exact =
       record {
-        accepts = λ s w. sized-answer (sizes-true g (length marks) s) ∙ clean-done (all-clean g (length marks) s w);
-        accepted = λ e. either-way (λ t. (sized g (length marks) t, accepted-is t (ap (λ (x : Given). x .number) (sym (sized-answer t) ∙ e)))) (λ f. absurd (one-zero (ap (λ (x : Given). x .number) (sym (unsized-answer f) ∙ e))));
-        refuses = λ n. either-way (λ t. absurd (n (sized g (length marks) t))) (λ f. unsized-answer f);
-        refused = λ e s. two-one (judged (stages g)) (ap (λ (x : Given). x .number) (sym (sized-answer (sizes-true g (length marks) s)) ∙ e));
-        names = λ s n. named s n (judged (stages g));
+        accepts = λ s w. accepts judgement s w;
+        accepted = λ e. accepted judgement e;
+        refuses = λ n. refuses judgement n;
+        refused = λ e s. refused judgement e s;
+        refuses-row = λ s n. refuses-row judgement s n;
+        refused-row = λ e. refused-row judgement e;
+        refuses-entry = λ s r n. refuses-entry judgement s r n;
+        refused-entry = λ e. refused-entry judgement e;
+        names = λ s n. names judgement s n;
       }
     where
-      one-zero : _≡_ {A = ℕ} 1 0 → ⊥
-      one-zero e = omega arith
+      accepts : {p : Given} → Judged g marks p → Sized g (length marks) → WellFormed g → p ≡ done
+      accepts (unsized n) s w = absurd (n s)
+      accepts (sound s w) s′ w′ = refl
+      accepts (faulty s n first) s′ w = absurd (n w)
 
-      two-one : AllClean (stages g) ⊎ Names (stages g) (firstFault (stages g)) → firstFault (stages g) .number ≡ 1 → ⊥
-      two-one (inl all) e = zero-one (ap (λ (x : Given). x .number) (sym (clean-done all)) ∙ e)
-        where
-          zero-one : _≡_ {A = ℕ} 0 1 → ⊥
-          zero-one e = omega arith
-      two-one (inr names) e = omega (arith, named-refuses (all-refuse g) names)
+      refuses : {p : Given} → Judged g marks p → (Sized g (length marks) → ⊥) → p ≡ badSizes
+      refuses (unsized n) n′ = refl
+      refuses (sound s w) n = absurd (n s)
+      refuses (faulty s n first) n′ = absurd (n′ s)
 
-      named : Sized g (length marks) → (WellFormed g → ⊥) → AllClean (stages g) ⊎ Names (stages g) (firstFault (stages g)) → Names (stages g) (checkCall g marks .given)
-      named s n (inl all) = absurd (n (well-formed g (length marks) s all))
-      named s n (inr names) = rw (sized-answer (sizes-true g (length marks) s)) names
+      names : {p : Given} → Judged g marks p → Sized g (length marks) → (WellFormed g → ⊥) → Names (stages g) p
+      names (unsized n) s n′ = absurd (n s)
+      names (sound s w) s′ n = absurd (n w)
+      names (faulty s n first) s′ n′ = first
+
+      -- the number of an answer that names a fault
+      at-least : {p : Given} → Names (stages g) p → 2 ≤ p .number
+      at-least first = ⊎-elim (λ t. omega (arith, t .0)) (λ t. omega (arith, t .0)) (row-or-entry g first)
+
+      accepted : {p : Given} → Judged g marks p → p .number ≡ 0 → Sized g (length marks) × WellFormed g
+      accepted (unsized n) e = absurd (omega arith)
+      accepted (sound s w) e = (s, w)
+      accepted (faulty s n first) e = absurd (omega (arith, at-least first))
+
+      refused : {p : Given} → Judged g marks p → p .number ≡ 1 → Sized g (length marks) → ⊥
+      refused (unsized n) e s = n s
+      refused (sound s w) e s′ = omega arith
+      refused (faulty s n first) e s′ = omega (arith, at-least first)
+
+      refuses-row : {p : Given} → Judged g marks p → Sized g (length marks) → (Rows g → ⊥) → p .number ≡ 2
+      refuses-row (unsized n) s r = absurd (n s)
+      refuses-row (sound s w) s′ r = absurd (r (w .rows))
+      refuses-row (faulty s n first) s′ r = ⊎-elim (λ t. t .0) (λ t. absurd (r (t .1))) (row-or-entry g first)
+
+      refused-row : {p : Given} → Judged g marks p → p .number ≡ 2 → Sized g (length marks) × (Rows g → ⊥)
+      refused-row (unsized n) e = absurd (omega arith)
+      refused-row (sound s w) e = absurd (omega arith)
+      refused-row (faulty s n first) e = (s, ⊎-elim (λ t. t .1) (λ t. absurd (omega (arith, t .0))) (row-or-entry g first))
+
+      refuses-entry : {p : Given} → Judged g marks p → Sized g (length marks) → Rows g → (WellFormed g → ⊥) → p .number ≡ 3
+      refuses-entry (unsized n) s r n′ = absurd (n s)
+      refuses-entry (sound s w) s′ r n = absurd (n w)
+      refuses-entry (faulty s n first) s′ r n′ = ⊎-elim (λ t. absurd (t .1 r)) (λ t. t .0) (row-or-entry g first)
+
+      refused-entry : {p : Given} → Judged g marks p → p .number ≡ 3 → Sized g (length marks) × Rows g × (WellFormed g → ⊥)
+      refused-entry (unsized n) e = absurd (omega arith)
+      refused-entry (sound s w) e = absurd (omega arith)
+      refused-entry (faulty s n first) e = (s, ⊎-elim (λ t. absurd (omega (arith, t .0))) (λ t. t .1) (row-or-entry g first), n)

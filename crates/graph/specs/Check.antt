@@ -14,7 +14,7 @@ use Rattle.graph.specs.declared.Counts.{Counts}
 use Rattle.graph.specs.Stages.{Stage, firstFault}
 use Rattle.graph.specs.Leaves.{goodInput, goodLatch, goodEdge}
 use Rattle.graph.specs.Justice.{goodEnd, edgePlace}
-use Rattle.graph.specs.Graph.{Lent, sizes}
+use Rattle.graph.specs.Graph.{Lent, sizesRight}
 
 -- ---- the stages, in document 01's order
 -- 2: "a used row is none of the three kinds at its place", placed at the smallest such row
@@ -29,7 +29,7 @@ abbrev pub inputStage : List ℕ → ℕ → List ℕ → ℕ → Stage
 inputStage rows used inputs n = entryStage 1 n (goodInput rows used inputs)
 
 abbrev pub latchStage : List ℕ → ℕ → List ℕ → List ℕ → ℕ → Stage
-latchStage rows used inputs latches n = entryStage 2 n (goodLatch rows used inputs latches)
+latchStage rows used listed latches n = entryStage 2 n (goodLatch rows used listed latches)
 
 abbrev pub edgeStage : ℕ → ℕ → List ℕ → ℕ → Stage
 edgeStage used list entries n = entryStage list n (goodEdge used entries)
@@ -88,7 +88,7 @@ checkSeen r marks = record { given = told r; marks = marks }
 -- 1, "when they are untouched"; then 2 and 3
 unfoldable pub checkCall : Lent → List ℕ → CheckSeen
 checkCall g marks =
-    cond (sizes g (length marks)) (record { given = contents g; marks = cleared (g .counts .rows) marks }) (record { given = badSizes; marks = marks })
+    cond (sizesRight g (length marks)) (record { given = contents g; marks = cleared (g .counts .rows) marks }) (record { given = badSizes; marks = marks })
 
 -- any two results that the promise allows are equal
 pub check-determined : (g : Lent) (marks : List ℕ) (r s : Answer) (m n : List ℕ) → checkSeen r m ≡ checkCall g marks → checkSeen s n ≡ checkCall g marks → (r ≡ s) × (m ≡ n)

@@ -27,8 +27,8 @@ lent rows inputs latches constraints bads outputs ends edges fairness counts =
     record { rows = rows; inputs = inputs; latches = latches; constraints = constraints; bads = bads; outputs = outputs; ends = ends; edges = edges; fairness = fairness; counts = counts }
 
 -- no answer 1: "used rows 0 or above the lent rows, a limit passed by rows or a list, a list count above its room, or work marks .. shorter than the used rows"
-unfoldable pub sizes : Lent → ℕ → Bool
-sizes g marks =
+unfoldable pub sizesRight : Lent → ℕ → Bool
+sizesRight g marks =
     rowsFit (g .counts .rows) (g .rows)
     && leb (g .counts .rows) marks
     && fits (g .counts .inputs) (length (g .inputs)) maxEntries

@@ -33,10 +33,10 @@ goodInput rows used inputs i = freeLeaf rows used (take i inputs) (getD inputs i
 unfoldable pub latchEdges : ℕ → Latch → Bool
 latchEdges used l = usedEdge used (l .next) && (eqb (l .init) none || usedEdge used (l .init))
 
--- latch i, where `inputs` are listed before all latches
+-- latch i, where `listed` are the ids of the used inputs, which are listed before all latches
 abbrev pub goodLatch : List ℕ → ℕ → List ℕ → List ℕ → ℕ → Bool
-goodLatch rows used inputs latches i =
-    freeLeaf rows used (inputs ++ latchInputs latches i) (latchAt latches i .input) && latchEdges used (latchAt latches i)
+goodLatch rows used listed latches i =
+    freeLeaf rows used (listed ++ latchInputs latches i) (latchAt latches i .input) && latchEdges used (latchAt latches i)
 
 -- ---- the marks say which rows are listed: a mark that is not 0 stands for a listed row
 abbrev pub Marks : ℕ → List ℕ → List ℕ → Type 0

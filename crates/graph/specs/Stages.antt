@@ -35,7 +35,7 @@ Clean s = (i : ℕ) → i < s .count → s .good i ≡ true
 
 -- nothing is bad
 pub data AllClean : List Stage → Type 0 where
-  none : AllClean []
+  nothing : AllClean []
   more : {s : Stage} {ss : List Stage} → Clean s → AllClean ss → AllClean (s ∷ ss)
 
 -- the answer names the first fault: it is bad, and nothing before it is, in its stage or in an earlier one

@@ -14,6 +14,8 @@ use Rattle.graph.specs.Graph.{Lent, Sized}
 use Rattle.graph.specs.Stages.{Names}
 use Rattle.graph.specs.Check.{stages, checkCall}
 
+-- It is meant for a graph whose sizes are right: past the end of a list a word counts as 0.
+
 -- "a used leaf"
 abbrev pub UsedLeaf : Lent → ℕ → Type 0
 UsedLeaf g x = (x < g .counts .rows) × (leafAt (g .rows) x ≡ true)
@@ -47,10 +49,19 @@ pub record WellFormed (g : Lent) : Type 0 where
   pub last : (s : ℕ) → s + 1 ≡ g .counts .sets → getD (g .ends) s 0 ≡ g .counts .edges
   pub no-sets : g .counts .sets ≡ 0 → g .counts .edges ≡ 0
 
--- `check` answers 0 exactly when the sizes are right and the graph is well-formed, 1 exactly when the sizes are wrong, and any other answer names the first fault.
+-- `check` gives each answer exactly in its case, and an answer 2 or 3 names the first fault.
 pub record Exact (g : Lent) (marks : List ℕ) : Type 0 where
+  -- 0: the sizes are right and the graph is well-formed
   pub accepts : Sized g (length marks) → WellFormed g → checkCall g marks .given ≡ done
-  pub accepted : checkCall g marks .given ≡ done → Sized g (length marks) × WellFormed g
+  pub accepted : checkCall g marks .given .number ≡ 0 → Sized g (length marks) × WellFormed g
+  -- 1: the sizes are wrong
   pub refuses : (Sized g (length marks) → ⊥) → checkCall g marks .given ≡ badSizes
-  pub refused : checkCall g marks .given ≡ badSizes → Sized g (length marks) → ⊥
+  pub refused : checkCall g marks .given .number ≡ 1 → Sized g (length marks) → ⊥
+  -- 2: the sizes are right, and not every used row is one
+  pub refuses-row : Sized g (length marks) → (AllRows (g .rows) (g .counts .rows) → ⊥) → checkCall g marks .given .number ≡ 2
+  pub refused-row : checkCall g marks .given .number ≡ 2 → Sized g (length marks) × (AllRows (g .rows) (g .counts .rows) → ⊥)
+  -- 3: sizes and rows are right, and the graph is not well-formed
+  pub refuses-entry : Sized g (length marks) → AllRows (g .rows) (g .counts .rows) → (WellFormed g → ⊥) → checkCall g marks .given .number ≡ 3
+  pub refused-entry : checkCall g marks .given .number ≡ 3 → Sized g (length marks) × AllRows (g .rows) (g .counts .rows) × (WellFormed g → ⊥)
+  -- the place: nothing before it is bad, and it is
   pub names : Sized g (length marks) → (WellFormed g → ⊥) → Names (stages g) (checkCall g marks .given)

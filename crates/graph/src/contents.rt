@@ -7,7 +7,7 @@ ghost use Rattle.edge.specs.Answers.{told};
 ghost use Rattle.rows.specs.Rows.{rowAt};
 ghost use Rattle.graph.specs.Search.{firstBad};
 ghost use Rattle.graph.specs.Stages.{firstFault};
-ghost use Rattle.graph.specs.Graph.{lent, sizes};
+ghost use Rattle.graph.specs.Graph.{lent, sizesRight};
 ghost use Rattle.graph.specs.Check.{listStages, contents, cleared};
 use crate::Counts;
 use crate::justice::check_justice;
@@ -84,7 +84,7 @@ pub fn check_contents(
     marks: &mut [u32],
 ) -> Answer
     requires { ⌜
-        sizes (lent (now rows) (now inputs) (now latches) (now constraints) (now bads) (now outputs) (now ends) (now edges) (now fairness) counts) (length (now marks))
+        sizesRight (lent (now rows) (now inputs) (now latches) (now constraints) (now bads) (now outputs) (now ends) (now edges) (now fairness) counts) (length (now marks))
         ≡ true
         ⌝ }
     ensures { λ r. ⌜

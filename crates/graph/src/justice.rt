@@ -8,6 +8,7 @@ ghost use Rattle.graph.specs.Search.{firstBad};
 ghost use Rattle.graph.specs.Stages.{firstFault};
 ghost use Rattle.graph.specs.Justice.{endIs, goodEnd};
 ghost use Rattle.graph.specs.Check.{setStage, justiceStages};
+use crate::lists::is_used;
 use crate::search::Found;
 use crate::search::bad_entry;
 use edge::Answer;
@@ -48,7 +49,7 @@ fn check_sets(ends: &[u32], sets: usize, edges: &[u32], n: usize, used: usize) -
         let end = ends[s] as usize;
         let mut k = from;
         while k < end {
-            if used <= (edges[k] / 2) as usize {
+            if !is_used(edges[k], used) {
                 answer = Answer::BadEntry {
                     list: 6,
                     index: s,

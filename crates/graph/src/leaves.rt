@@ -8,17 +8,18 @@ ghost use Rattle.edge.specs.Answers.{told};
 ghost use Rattle.graph.specs.Search.{firstBad};
 ghost use Rattle.graph.specs.Stages.{firstFault};
 ghost use Rattle.graph.specs.Latches.{latchWords};
-ghost use Rattle.graph.specs.Leaves.{usedEdge, latchEdges, goodInput, goodLatch, Marks, unmarkedLeaf};
+ghost use Rattle.graph.specs.Leaves.{latchEdges, goodInput, goodLatch, Marks, unmarkedLeaf};
 ghost use Rattle.graph.specs.Check.{leafStages};
 use crate::Counts;
 use crate::latch::Latch;
 use crate::latch::latch_at;
+use crate::lists::is_used;
 use crate::search::Found;
 use crate::search::bad_entry;
 use edge::Answer;
 use rows::kinds;
 
-// Lists row x: it is to be a used leaf without a mark, and then it is marked.
+// Lists row x: where it is a used leaf without a mark, it is marked.
 fn claim(rows: &[u32], used: usize, x: u32, marks: &mut [u32]) -> bool
     requires { ⌜ 2 * used ≤ length (now rows) ⌝ }
     requires { ⌜ used ≤ length (now marks) ⌝ }
@@ -49,12 +50,6 @@ fn first_bad_input(rows: &[u32], used: usize, inputs: &[u32], n: usize, marks: &
         }
     }
     Found::Nothing
-}
-
-fn is_used(e: u32, used: usize) -> bool
-    ensures { λ r. ⌜ r ≡ usedEdge used e ⌝ }
-{
-    ((e / 2) as usize) < used
 }
 
 // Is next an edge to a used row, and init such an edge or none?

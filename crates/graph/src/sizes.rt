@@ -1,6 +1,6 @@
 // Answer 1.
 ghost use mathlib.Core.Path.{_≡_};
-ghost use Rattle.graph.specs.Graph.{lent, sizes};
+ghost use Rattle.graph.specs.Graph.{lent, sizesRight};
 use crate::Counts;
 use crate::latch::LATCH_WORDS;
 use rows::sizes::MAX_ENTRIES;
@@ -23,7 +23,7 @@ pub fn sizes(
 ) -> bool
     ensures { λ r. ⌜
         r
-        ≡ sizes (lent (now (rows .entry)) (now (inputs .entry)) (now (latches .entry)) (now (constraints .entry)) (now (bads .entry)) (now (outputs .entry)) (now (ends .entry)) (now (edges .entry)) (now (fairness .entry)) counts) marks
+        ≡ sizesRight (lent (now (rows .entry)) (now (inputs .entry)) (now (latches .entry)) (now (constraints .entry)) (now (bads .entry)) (now (outputs .entry)) (now (ends .entry)) (now (edges .entry)) (now (fairness .entry)) counts) marks
         ⌝ }
 {
     rows_fit(counts.rows, rows)

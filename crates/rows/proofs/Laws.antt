@@ -11,7 +11,7 @@ use borrow.Author.Tests.{lt-ltb, le-ltb, ltb-true, ltb-false, leb-true, eqb-true
 use Rattle.edge.specs.declared.BoolAnswer.{BoolAnswer}
 use Rattle.edge.specs.Answers.{done, badSizes, badArgument, told, orElse}
 use Rattle.edge.specs.Edges.{BoolSeen, boolSeen}
-use Rattle.edge.proofs.Tests.{both}
+use Rattle.edge.proofs.Tests.{both, false-true}
 use Rattle.edge.proofs.Answers.{none-of-two}
 use Rattle.rows.specs.Sizes.{fits, Fit, rowsLent, rowsFit, RowsFit, maxRows}
 use Rattle.rows.specs.Rows.{isGate, gateAt}
@@ -46,9 +46,6 @@ gate-below i a b h =
     let l = ltb-true a (2 * i) (t .0) in
     let m = ltb-true b (2 * i) (t .1) in
     (omega arith, omega arith)
-
-false-true : false ≡ true → ⊥
-false-true h = let z : _≡_ {A = ℕ} 0 1 = cc in omega arith
 
 -- ---- where reading is not refused, both words are there
 pub row-there : (rows : List ℕ) (used id : ℕ) → rowRead rows used id .number ≡ 0 → 2 * id + 1 < length rows

@@ -7,12 +7,12 @@ use mathlib.Core.List.{List}
 use mathlib.Core.Logic.{⊎-elim}
 use mathlib.Core.Bool.{Bool, true, false, cond, not, _&&_, _||_}
 use lib.Dec.{eqb, ltb}
-use borrow.Author.Tests.{ltb-true, eqb-true, ne-eqb, le-ltb}
+use borrow.Author.Tests.{eqb-true, le-ltb}
 use Rattle.edge.specs.Edges.{idOf, isComplemented}
 use Rattle.edge.specs.Meaning.{edgeValue}
 use Rattle.edge.proofs.Tests.{both, either}
 use Rattle.rows.specs.Sizes.{maxRows}
-use Rattle.rows.specs.Rows.{word0, word1, none, isFalseRow, isLeaf, isGate, isRow, leafAt, gateAt, AllRows}
+use Rattle.rows.specs.Rows.{word0, word1, falseWord, none, isFalseRow, isLeaf, isGate, isRow, leafAt, gateAt, AllRows}
 use Rattle.rows.specs.Value.{Obeys, rowValue, valueBelow, value, Values, InCone, Agree, Local}
 use Rattle.rows.specs.Value.InCone.{here, by0, by1}
 use Rattle.rows.proofs.Laws.{gate-below}
@@ -23,7 +23,7 @@ unfolding rowValue edgeValue
 row-same leaf v w i a b h = go (isGate i a b) refl
   where
     go : (t : Bool) → isGate i a b ≡ t
-        → cond (eqb i 0) false (cond t (edgeValue v a && edgeValue v b) (leaf i)) ≡ cond (eqb i 0) false (cond t (edgeValue w a && edgeValue w b) (leaf i))
+        → cond t (edgeValue v a && edgeValue v b) (cond (isLeaf i a b) (leaf i) false) ≡ cond t (edgeValue w a && edgeValue w b) (cond (isLeaf i a b) (leaf i) false)
     go true e = let t = gate-below i a b e in rw (h (a / 2) (t .0), h (b / 2) (t .1))
     go false e = refl
 
@@ -44,36 +44,30 @@ module _ (rows : List ℕ) (leaf : ℕ → Bool) where
   -- a gate, and another row
   pub value-gate : (i : ℕ) → gateAt rows i ≡ true → value rows leaf i ≡ edgeValue (value rows leaf) (word0 rows i) && edgeValue (value rows leaf) (word1 rows i)
   unfolding rowValue
-  value-gate i g =
-      let t = gate-below i (word0 rows i) (word1 rows i) g in
-      let n : i ≡ 0 → ⊥ = λ (z : i ≡ 0). omega (arith, t .0) in
-      value-row i ∙ rw (ne-eqb i 0 n, g)
+  value-gate i g = value-row i ∙ rw g
 
-  pub value-other : (i : ℕ) → gateAt rows i ≡ false → value rows leaf i ≡ cond (eqb i 0) false (leaf i)
+  pub value-other : (i : ℕ) → gateAt rows i ≡ false → value rows leaf i ≡ cond (leafAt rows i) (leaf i) false
   unfolding rowValue
   value-other i g = value-row i ∙ rw g
 
-  value-zero : value rows leaf 0 ≡ false
-  unfolding rowValue
-  value-zero = value-row 0
+  pub value-zero : value rows leaf 0 ≡ false
+  unfolding rowValue isGate isLeaf
+  value-zero = value-row 0 ∙ rw (le-ltb (word0 rows 0) 0 (omega arith))
 
 -- ---- the rules
 -- a leaf within the limit is no gate
-leaf-no-gate : (i a b : ℕ) → i ≤ maxRows → isLeaf i a b ≡ true → (isGate i a b ≡ false) × (0 < i)
+pub leaf-no-gate : (i a b : ℕ) → i ≤ maxRows → isLeaf i a b ≡ true → isGate i a b ≡ false
 unfolding isLeaf isGate
 leaf-no-gate i a b l h =
     let t = both {a = ltb 0 i && eqb a none} {b = eqb b 0} h in
     let u = both {a = ltb 0 i} {b = eqb a none} (t .0) in
     let q = eqb-true a none (u .1) in
     let m : 2 * i ≤ a = omega arith in
-    (rw (le-ltb a (2 * i) m), ltb-true 0 i (u .0))
+    rw (le-ltb a (2 * i) m)
 
 module _ (rows : List ℕ) (used : ℕ) (leaf : ℕ → Bool) (limit : used ≤ maxRows) where
-  value-leaf : (i : ℕ) → i < used → leafAt rows i ≡ true → value rows leaf i ≡ leaf i
-  value-leaf i l h =
-      let t = leaf-no-gate i (word0 rows i) (word1 rows i) (omega arith) h in
-      let n : i ≡ 0 → ⊥ = λ (z : i ≡ 0). omega (arith, t .1) in
-      value-other rows leaf i (t .0) ∙ rw (ne-eqb i 0 n)
+  pub value-leaf : (i : ℕ) → i < used → leafAt rows i ≡ true → value rows leaf i ≡ leaf i
+  value-leaf i l h = value-other rows leaf i (leaf-no-gate i (word0 rows i) (word1 rows i) (omega arith) h) ∙ rw h
 
   value-obeys : Obeys rows used leaf (value rows leaf)
   value-obeys = record { constant = value-zero rows leaf; leaves = value-leaf; gates = λ i l g. value-gate rows leaf i g }
@@ -86,7 +80,7 @@ module _ (rows : List ℕ) (used : ℕ) (leaf : ℕ → Bool) (limit : used ≤ 
       where
         zero-row : isFalseRow i (word0 rows i) (word1 rows i) ≡ true → v i ≡ value rows leaf i
         zero-row h =
-            let t = both {a = eqb i 0} {b = eqb (word0 rows i) 4294967294} (both {a = eqb i 0 && eqb (word0 rows i) 4294967294} {b = eqb (word1 rows i) 0} h .0) in
+            let t = both {a = eqb i 0} {b = eqb (word0 rows i) falseWord} (both {a = eqb i 0 && eqb (word0 rows i) falseWord} {b = eqb (word1 rows i) 0} h .0) in
             let z = eqb-true i 0 (t .0) in
             rw z (o .constant ∙ sym (value-zero rows leaf))
 
@@ -120,8 +114,15 @@ module _ (rows other : List ℕ) (leaf leaf′ : ℕ → Bool) where
       same : gateAt rows i ≡ gateAt other i
       same = ap₂ (isGate i) (a i here .first) (a i here .second)
 
+      same-leaf : leafAt rows i ≡ leafAt other i
+      same-leaf = ap₂ (isLeaf i) (a i here .first) (a i here .second)
+
+      leaves : (t : Bool) → leafAt rows i ≡ t → cond t (leaf i) false ≡ cond t (leaf′ i) false
+      leaves true h = a i here .chosen h
+      leaves false h = refl
+
       go : (t : Bool) → gateAt rows i ≡ t → value rows leaf i ≡ value other leaf′ i
-      go false g = value-other rows leaf i g ∙ (ap (cond (eqb i 0) false) (a i here .chosen) ∙ sym (value-other other leaf′ i (sym same ∙ g)))
+      go false g = value-other rows leaf i g ∙ (leaves (leafAt rows i) refl ∙ (ap (λ (t : Bool). cond t (leaf′ i) false) same-leaf ∙ sym (value-other other leaf′ i (sym same ∙ g))))
       go true g =
           let h = gate-below i (word0 rows i) (word1 rows i) g in
           value-gate rows leaf i g

@@ -7,7 +7,9 @@ use mathlib.Core.Path.{_≡_, ap}
 use lib.Dec.{ltb, eqb}
 use Rattle.edge.specs.declared.answer.Given.{Given}
 use Rattle.edge.specs.Answers.{done, badSizes, badArgument, told, told-injective, orElse, determined}
-use Rattle.edge.specs.Edges.{BoolSeen, EdgeSeen}
+use Rattle.edge.specs.declared.BoolAnswer.{BoolAnswer}
+use Rattle.edge.specs.declared.EdgeAnswer.{EdgeAnswer}
+use Rattle.edge.specs.Edges.{BoolSeen, boolSeen, bool-determined, EdgeSeen, edgeSeen, edge-determined}
 use Rattle.rows.specs.declared.reading.Fanins.{Fanins}
 use Rattle.rows.specs.Sizes.{rowsFit}
 use Rattle.rows.specs.Rows.{word0, word1, leafAt, gateAt}
@@ -59,7 +61,23 @@ fanin0Call rows used id = firstSeen (faninCall rows used id)
 abbrev pub fanin1Call : List ℕ → ℕ → ℕ → EdgeSeen
 fanin1Call rows used id = secondSeen (faninCall rows used id)
 
--- any two results that the promise of `fanin` allows are equal; of the other four it is edge's `bool-determined` and `edge-determined`
+-- ---- any two results that a promise allows are equal, call by call
+pub is-and-determined : (rows : List ℕ) (used id : ℕ) (r s : BoolAnswer) → boolSeen r ≡ isAndCall rows used id → boolSeen s ≡ isAndCall rows used id
+    → (r .answer ≡ s .answer) × (r .value ≡ s .value)
+is-and-determined rows used = bool-determined (isAndCall rows used)
+
+pub is-leaf-determined : (rows : List ℕ) (used id : ℕ) (r s : BoolAnswer) → boolSeen r ≡ isLeafCall rows used id → boolSeen s ≡ isLeafCall rows used id
+    → (r .answer ≡ s .answer) × (r .value ≡ s .value)
+is-leaf-determined rows used = bool-determined (isLeafCall rows used)
+
+pub fanin0-determined : (rows : List ℕ) (used id : ℕ) (r s : EdgeAnswer) → edgeSeen r ≡ fanin0Call rows used id → edgeSeen s ≡ fanin0Call rows used id
+    → (r .answer ≡ s .answer) × (r .edge ≡ s .edge)
+fanin0-determined rows used = edge-determined (fanin0Call rows used)
+
+pub fanin1-determined : (rows : List ℕ) (used id : ℕ) (r s : EdgeAnswer) → edgeSeen r ≡ fanin1Call rows used id → edgeSeen s ≡ fanin1Call rows used id
+    → (r .answer ≡ s .answer) × (r .edge ≡ s .edge)
+fanin1-determined rows used = edge-determined (fanin1Call rows used)
+
 pub fanin-determined : (rows : List ℕ) (used id : ℕ) (r s : Fanins) → faninSeen r ≡ faninCall rows used id → faninSeen s ≡ faninCall rows used id
     → (r .answer ≡ s .answer) × (r .first ≡ s .first) × (r .second ≡ s .second)
 fanin-determined rows used id r s p q =

@@ -14,13 +14,17 @@ word0 rows i = getD rows (2 * i) 0
 abbrev pub word1 : List ℕ → ℕ → ℕ
 word1 rows i = getD rows (2 * i + 1) 0
 
--- the word of a leaf, and of a latch that has no init
+-- the first word of row 0
+abbrev pub falseWord : ℕ
+falseWord = 4294967294
+
+-- the first word of a leaf, and the init of a latch that has none
 abbrev pub none : ℕ
 none = 4294967295
 
 -- "Row 0 is (4294967294, 0)"
 unfoldable pub isFalseRow : ℕ → ℕ → ℕ → Bool
-isFalseRow i a b = eqb i 0 && eqb a 4294967294 && eqb b 0
+isFalseRow i a b = eqb i 0 && eqb a falseWord && eqb b 0
 
 -- "A leaf, at any later row, is (4294967295, 0)"
 unfoldable pub isLeaf : ℕ → ℕ → ℕ → Bool
@@ -44,6 +48,6 @@ gateAt rows i = isGate i (word0 rows i) (word1 rows i)
 abbrev pub rowAt : List ℕ → ℕ → Bool
 rowAt rows i = isRow i (word0 rows i) (word1 rows i)
 
--- "every used row is as above"
+-- "every used row is as above", of a table that has that many
 abbrev pub AllRows : List ℕ → ℕ → Type 0
 AllRows rows used = (i : ℕ) → i < used → rowAt rows i ≡ true

@@ -40,7 +40,7 @@ pub fn is_and(rows: &[u32], used: usize, id: u32) -> BoolAnswer
     }
 }
 
-// Is it a leaf?
+// Is row `id` a leaf?
 pub fn is_leaf(rows: &[u32], used: usize, id: u32) -> BoolAnswer
     ensures { λ r. ⌜ boolSeen r ≡ isLeafCall (now (rows .entry)) used id ⌝ }
 {
@@ -97,7 +97,7 @@ pub fn fanin(rows: &[u32], used: usize, id: u32) -> Fanins
     }
 }
 
-// Its first fanin.
+// The first fanin of row `id`. A row that is no gate: 4.
 pub fn fanin0(rows: &[u32], used: usize, id: u32) -> EdgeAnswer
     ensures { λ r. ⌜ edgeSeen r ≡ fanin0Call (now (rows .entry)) used id ⌝ }
 {
@@ -109,7 +109,7 @@ pub fn fanin0(rows: &[u32], used: usize, id: u32) -> EdgeAnswer
     }
 }
 
-// Its second fanin.
+// The second fanin of row `id`. A row that is no gate: 4.
 pub fn fanin1(rows: &[u32], used: usize, id: u32) -> EdgeAnswer
     ensures { λ r. ⌜ edgeSeen r ≡ fanin1Call (now (rows .entry)) used id ⌝ }
 {

@@ -8,7 +8,7 @@ use Rattle.graph.specs.Graph.{Lent, lent, Sized}
 use Rattle.graph.specs.Check.{contents}
 use Rattle.graph.proofs.Stages.{stage-stops, stage-goes, join-stops, join-goes}
 use Rattle.graph.proofs.Marked.{marks-none, cleared-again}
-use Rattle.graph.proofs.Checked.{sized, leaves-refuse}
+use Rattle.graph.proofs.Checked.{sized, leaf-entries}
 use borrow.Author.Needs.{needs}
 use Rattle.graph.proofs.contents.check_contents.Statement.{statement}
 use Rattle.graph.proofs.contents.check_contents.Tie as tie
@@ -63,7 +63,7 @@ same-length-2 c = search needs
 returns-2 : tie.Need-returns-2
 unfolding contents
 returns-2 c = (
-  c .before .before .before .before .before .before .before .before .check-leaves .ensures .0 ∙ sym (stage-goes _ _ (sym (c .before .before .before .before .before .before .before .before .before .before .before .before .first-bad-row .ensures) ∙ c .before .before .before .before .before .before .before .before .before .before .enum-told .given .1) ∙ join-stops _ (leaves-refuse (c .before .before .before .before .before .before .before .before .before .before .before .before .before .before .before .before .before .before .before .before .before .before .before .before .before .before .before .args .rows .now) (c .before .before .before .before .before .before .before .before .before .before .before .before .before .before .before .before .before .before .before .before .before .before .before .before .before .before .before .args .inputs .now) (c .before .before .before .before .before .before .before .before .before .before .before .before .before .before .before .before .before .before .before .before .before .before .before .before .before .before .before .args .latches .now) (c .before .before .before .before .before .before .before .before .before .before .before .before .before .before .before .before .before .before .before .before .before .before .before .before .before .before .before .args .counts)) (test-refused (c .before .before .before .before .before .before .before .before .check-leaves .ensures .0) (c .before .is-done .ensures) (c .if1 .taken))),
+  c .before .before .before .before .before .before .before .before .check-leaves .ensures .0 ∙ sym (stage-goes _ _ (sym (c .before .before .before .before .before .before .before .before .before .before .before .before .first-bad-row .ensures) ∙ c .before .before .before .before .before .before .before .before .before .before .enum-told .given .1) ∙ join-stops _ (leaf-entries (c .before .before .before .before .before .before .before .before .before .before .before .before .before .before .before .before .before .before .before .before .before .before .before .before .before .before .before .args .rows .now) (c .before .before .before .before .before .before .before .before .before .before .before .before .before .before .before .before .before .before .before .before .before .before .before .before .before .before .before .args .inputs .now) (c .before .before .before .before .before .before .before .before .before .before .before .before .before .before .before .before .before .before .before .before .before .before .before .before .before .before .before .args .latches .now) (c .before .before .before .before .before .before .before .before .before .before .before .before .before .before .before .before .before .before .before .before .before .before .before .before .before .before .before .args .counts)) (test-refused (c .before .before .before .before .before .before .before .before .check-leaves .ensures .0) (c .before .is-done .ensures) (c .if1 .taken))),
   c .before .before .before .before .clear2 .ensures ∙ cleared-again (c .before .before .before .before .before .before .before .before .before .before .before .before .before .before .before .before .before .before .before .before .before .before .before .before .before .before .before .args .counts .rows) (c .before .before .before .before .before .before .before .before .before .before .before .before .before .before .before .before .before .before .before .before .before .before .before .before .before .before .before .args .marks .now) _ (c .before .before .before .before .before .before .before .before .check-leaves .ensures .1 ∙ ap (drop (c .before .before .before .before .before .before .before .before .before .before .before .before .before .before .before .before .before .before .before .before .before .before .before .before .before .before .before .args .counts .rows)) (c .before .before .before .before .before .before .before .before .before .before .before .before .before .before .before .clear .ensures)),
 )
 
@@ -79,7 +79,7 @@ same-length-3 c = search needs
 returns-3 : tie.Need-returns-3
 unfolding contents
 returns-3 c = (
-  c .check-lists .ensures ∙ sym (stage-goes _ _ (sym (c .before .before .before .before .before .before .before .before .before .before .before .before .before .first-bad-row .ensures) ∙ c .before .before .before .before .before .before .before .before .before .before .before .enum-told .given .1) ∙ join-goes _ (leaves-refuse (c .before .before .before .before .before .before .before .before .before .before .before .before .before .before .before .before .before .before .before .before .before .before .before .before .before .before .before .before .args .rows .now) (c .before .before .before .before .before .before .before .before .before .before .before .before .before .before .before .before .before .before .before .before .before .before .before .before .before .before .before .before .args .inputs .now) (c .before .before .before .before .before .before .before .before .before .before .before .before .before .before .before .before .before .before .before .before .before .before .before .before .before .before .before .before .args .latches .now) (c .before .before .before .before .before .before .before .before .before .before .before .before .before .before .before .before .before .before .before .before .before .before .before .before .before .before .before .before .args .counts)) (test-done (c .before .before .before .before .before .before .before .before .before .check-leaves .ensures .0) (c .before .before .is-done .ensures) (c .before .if1 .left))),
+  c .check-lists .ensures ∙ sym (stage-goes _ _ (sym (c .before .before .before .before .before .before .before .before .before .before .before .before .before .first-bad-row .ensures) ∙ c .before .before .before .before .before .before .before .before .before .before .before .enum-told .given .1) ∙ join-goes _ (leaf-entries (c .before .before .before .before .before .before .before .before .before .before .before .before .before .before .before .before .before .before .before .before .before .before .before .before .before .before .before .before .args .rows .now) (c .before .before .before .before .before .before .before .before .before .before .before .before .before .before .before .before .before .before .before .before .before .before .before .before .before .before .before .before .args .inputs .now) (c .before .before .before .before .before .before .before .before .before .before .before .before .before .before .before .before .before .before .before .before .before .before .before .before .before .before .before .before .args .latches .now) (c .before .before .before .before .before .before .before .before .before .before .before .before .before .before .before .before .before .before .before .before .before .before .before .before .before .before .before .before .args .counts)) (test-done (c .before .before .before .before .before .before .before .before .before .check-leaves .ensures .0) (c .before .before .is-done .ensures) (c .before .if1 .left))),
   c .before .before .before .before .before .clear2 .ensures ∙ cleared-again (c .before .before .before .before .before .before .before .before .before .before .before .before .before .before .before .before .before .before .before .before .before .before .before .before .before .before .before .before .args .counts .rows) (c .before .before .before .before .before .before .before .before .before .before .before .before .before .before .before .before .before .before .before .before .before .before .before .before .before .before .before .before .args .marks .now) _ (c .before .before .before .before .before .before .before .before .before .check-leaves .ensures .1 ∙ ap (drop (c .before .before .before .before .before .before .before .before .before .before .before .before .before .before .before .before .before .before .before .before .before .before .before .before .before .before .before .before .args .counts .rows)) (c .before .before .before .before .before .before .before .before .before .before .before .before .before .before .before .before .clear .ensures)),
 )
 

@@ -7,7 +7,7 @@ use Rattle.edge.proofs.Answers.{test-done, test-refused}
 use Rattle.graph.specs.Stages.{firstFault}
 use Rattle.graph.specs.Check.{edgeStage, justiceStages, listStages}
 use Rattle.graph.proofs.Stages.{stage-stops, stage-goes, none-left, join-stops, join-goes}
-use Rattle.graph.proofs.Checked.{justice-refuses}
+use Rattle.graph.proofs.Checked.{justice-entries}
 use borrow.Author.Needs.{needs}
 use Rattle.graph.proofs.contents.check_lists.Statement.{statement}
 use Rattle.graph.proofs.contents.check_lists.Tie as tie
@@ -29,7 +29,7 @@ past-justice : (c : tie.Else1)
     ≡ firstFault (edgeStage (a .counts .rows) 7 (a .fairness .now) (a .counts .fairness) ∷ [])
 past-justice c =
     let a = c .before .before .before .before .before .before .before .before .before .before .before .before .before .before .before .before .before .before .args in
-    past (c .before .before) ∙ join-goes _ (justice-refuses (a .counts .rows) (a .ends .now) (a .counts .sets) (a .edges .now) (a .counts .edges)) (test-done (c .before .before .check-justice .ensures) (c .before .is-done .ensures) (c .if1 .left))
+    past (c .before .before) ∙ join-goes _ (justice-entries (a .counts .rows) (a .ends .now) (a .counts .sets) (a .edges .now) (a .counts .edges)) (test-done (c .before .before .check-justice .ensures) (c .before .is-done .ensures) (c .if1 .left))
 
 first-bad-edge-requires : tie.Need-first-bad-edge-requires
 first-bad-edge-requires c κs = search needs
@@ -89,7 +89,7 @@ returns-4 c =
     let a = c .before .before .before .before .before .before .before .before .before .before .before .before .before .before .before .before .before .before .args in
     c .before .before .check-justice .ensures
     ∙ sym (past (c .before .before)
-    ∙ join-stops (edgeStage (a .counts .rows) 7 (a .fairness .now) (a .counts .fairness) ∷ []) (justice-refuses (a .counts .rows) (a .ends .now) (a .counts .sets) (a .edges .now) (a .counts .edges)) (test-refused (c .before .before .check-justice .ensures) (c .before .is-done .ensures) (c .if1 .taken)))
+    ∙ join-stops (edgeStage (a .counts .rows) 7 (a .fairness .now) (a .counts .fairness) ∷ []) (justice-entries (a .counts .rows) (a .ends .now) (a .counts .sets) (a .edges .now) (a .counts .edges)) (test-refused (c .before .before .check-justice .ensures) (c .before .is-done .ensures) (c .if1 .taken)))
 
 first-bad-edge-requires-4 : tie.Need-first-bad-edge-requires-4
 first-bad-edge-requires-4 c κs = search needs

@@ -5,9 +5,9 @@ use native.Mathlib.Omega.{arith}
 use native.Mathlib.Nat.{sub-zero, le-antisymm}
 use mathlib.Core.Path.{_≡_, refl, sym, ap, _∙_}
 use lib.ListN.{getD}
-use borrow.Author.Tests.{lt-ltb, le-ltb}
+use borrow.Author.Tests.{not-true, not-false}
 use Rattle.edge.specs.declared.answer.Answer.the-variants.{Done}
-use Rattle.edge.specs.Answers.{told, given}
+use Rattle.edge.specs.Answers.{told}
 use Rattle.graph.specs.Search.{firstBad}
 use Rattle.graph.specs.Leaves.{goodEdge}
 use Rattle.graph.specs.Justice.{start}
@@ -32,8 +32,8 @@ abbrev μ-sets : tie.MeasureT-sets
 μ-sets ends sets edges n used answer₀ from₀ s₀ answer from s = sets - s
 
 -- the end of the set is good
-good-end : (c : tie.In-sets Inv-loop μ-loop Inv-sets μ-sets) → End (c .before .before .args .sets) (c .before .before .args .n) (c .before .sets .s) (start (c .before .before .args .ends .now) (c .before .sets .s)) (getD (c .before .before .args .ends .now) (c .before .sets .s) 0)
-good-end c = end-at (c .before .before .args .ends .now) (c .before .before .args .sets) (c .before .before .args .n) (c .before .before .pre .1) (c .before .sets .s) (c .sets-test .taken)
+good-end : (c : tie.In-sets Inv-loop μ-loop Inv-sets μ-sets) → End (c .before .before .before .before .args .sets) (c .before .before .before .before .args .n) (c .before .sets .s) (start (c .before .before .before .before .args .ends .now) (c .before .sets .s)) (getD (c .before .before .before .before .args .ends .now) (c .before .sets .s) 0)
+good-end c = end-at (c .before .before .before .before .args .ends .now) (c .before .before .before .before .args .sets) (c .before .before .before .before .args .n) (c .before .before .before .before .pre .1) (c .before .sets .s) (c .sets-test .taken)
 
 sets-holds : tie.Need-sets-holds Inv-loop μ-loop Inv-sets μ-sets
 sets-holds c = (search needs, refl, refl, rw sub-zero)
@@ -45,34 +45,34 @@ shared-slice-read-end : tie.Need-shared-slice-read-end Inv-loop μ-loop Inv-sets
 shared-slice-read-end c = search needs
 
 cast-end : tie.Need-cast-end Inv-loop μ-loop Inv-sets μ-sets
-cast-end c = omega (arith, c .shared-slice-known .given (c .before .before .sets .s))
+cast-end c = omega (arith, c .shared-slice-known3 .given (c .before .before .sets .s))
 
 loop-holds : tie.Need-loop-holds Inv-loop μ-loop Inv-sets μ-sets
 loop-holds c = (search needs, omega (arith, good-end (c .before) .rises, c .before .before .sets .inv .2), c .before .before .sets .inv .1, c .before .before .sets .inv .3)
 
-mul-if1 : tie.Need-mul-if1 Inv-loop μ-loop Inv-sets μ-sets
-mul-if1 c = omega (arith, good-end (c .before .before .before) .within)
+mul-is-used : tie.Need-mul-is-used Inv-loop μ-loop Inv-sets μ-sets
+mul-is-used c = omega (arith, good-end (c .before .before .before) .within)
 
-shared-slice-read-if1 : tie.Need-shared-slice-read-if1 Inv-loop μ-loop Inv-sets μ-sets
-shared-slice-read-if1 c = omega (arith, good-end (c .before .before .before .before) .within)
+shared-slice-read-is-used : tie.Need-shared-slice-read-is-used Inv-loop μ-loop Inv-sets μ-sets
+shared-slice-read-is-used c = omega (arith, good-end (c .before .before .before .before) .within)
 
-cast-if1 : tie.Need-cast-if1 Inv-loop μ-loop Inv-sets μ-sets
-cast-if1 c = omega (arith, c .shared-slice-known2 .given (c .before .before .loop .k))
+is-used-requires : tie.Need-is-used-requires Inv-loop μ-loop Inv-sets μ-sets
+is-used-requires c κs = search needs
 
-sub-t21 : tie.Need-sub-t21 Inv-loop μ-loop Inv-sets μ-sets
-sub-t21 c = search needs
+sub-t20 : tie.Need-sub-t20 Inv-loop μ-loop Inv-sets μ-sets
+sub-t20 c = search needs
 
-add-t22 : tie.Need-add-t22 Inv-loop μ-loop Inv-sets μ-sets
-add-t22 c = omega (arith, good-end (c .before .before .before .before .before) .within)
+add-t21 : tie.Need-add-t21 Inv-loop μ-loop Inv-sets μ-sets
+add-t21 c = omega (arith, good-end (c .before .before .before .before .before .before) .within)
 
 add-k : tie.Need-add-k Inv-loop μ-loop Inv-sets μ-sets
-add-k c = omega (arith, good-end (c .before .before .before .before .before) .within)
+add-k c = omega (arith, good-end (c .before .before .before .before .before .before) .within)
 
 loop-less : tie.Need-loop-less Inv-loop μ-loop Inv-sets μ-sets
 loop-less c = search needs
 
 loop-again : tie.Need-loop-again Inv-loop μ-loop Inv-sets μ-sets
-loop-again c = (search needs, search needs, c .before .before .before .loop .inv .2, c .before .before .before .loop .inv .3 ∙ goes-on _ _ _ (omega (arith, good-end (c .before .before .before .before .before) .within)) (lt-ltb _ _ (c .if1 .left)))
+loop-again c = (search needs, search needs, c .before .before .before .before .loop .inv .2, c .before .before .before .before .loop .inv .3 ∙ goes-on _ _ _ (omega (arith, good-end (c .before .before .before .before .before .before) .within)) (sym (c .before .is-used .ensures) ∙ not-false _ (c .if1 .left)))
 
 add-s : tie.Need-add-s Inv-loop μ-loop Inv-sets μ-sets
 add-s c = search needs
@@ -83,19 +83,19 @@ sets-less c = search needs
 sets-again : tie.Need-sets-again Inv-loop μ-loop Inv-sets μ-sets
 sets-again c =
     let k = c .before .loop .inv .3 in
-    (search needs, c .before .loop .inv .2, sym (start-next (c .before .before .before .before .before .args .ends .now) (c .before .before .before .before .sets .s)), rw (← (le-antisymm (c .before .loop .inv .1) (c .loop-test .left))) k)
+    (search needs, c .before .loop .inv .2, sym (start-next (c .before .before .before .before .before .before .before .args .ends .now) (c .before .before .before .before .sets .s)), rw (← (le-antisymm (c .before .loop .inv .1) (c .loop-test .left))) k)
 
 returns : tie.Need-returns Inv-loop μ-loop Inv-sets μ-sets
 returns c =
     let done = le-antisymm (c .before .sets .inv .0) (c .sets-test .left) in
-    let all = c .before .sets .inv .2 ∙ covered (c .before .before .args .ends .now) (c .before .before .args .sets) (c .before .before .args .n) (c .before .before .pre .1) (c .before .sets .s) (c .before .before .pre .0 .2) done in
+    let all = c .before .sets .inv .2 ∙ covered (c .before .before .before .before .args .ends .now) (c .before .before .before .before .args .sets) (c .before .before .before .before .args .n) (c .before .before .before .before .pre .1) (c .before .sets .s) (c .before .before .before .before .pre .0 .2) done in
     ap told (c .before .sets .inv .1) ∙ sym (stage-goes _ _ (c .before .sets .inv .3 ∙ ended _ _ _ (omega (arith, all))) ∙ none-left)
 
 returns-2 : tie.Need-returns-2 Inv-loop μ-loop Inv-sets μ-sets
 returns-2 c =
-    let here = set-of (c .before .before .before .before .before .before .before .args .ends .now) (c .before .before .before .before .before .before .before .args .sets) (c .before .before .before .before .before .before .before .args .n) (c .before .before .before .before .before .before .before .pre .1) (c .before .before .before .before .before .before .sets .s) (c .before .before .before .loop .k) (c .before .before .before .before .before .sets-test .taken) (omega (arith, c .before .before .before .before .before .before .sets .inv .2)) (c .before .before .loop-test .taken) in
-    let first = c .before .before .before .loop .inv .3 ∙ stops _ _ _ (omega (arith, good-end (c .before .before .before .before .before) .within)) (le-ltb _ _ (c .if1 .taken)) in
-    sym (stage-stops (setStage (c .before .before .before .before .before .before .before .args .used) (c .before .before .before .before .before .before .before .args .ends .now) (c .before .before .before .before .before .before .before .args .sets) (c .before .before .before .before .before .before .before .args .edges .now) (c .before .before .before .before .before .before .before .args .n)) _ first ∙ rw (here, ← (c .before .before .before .before .before .before .sets .inv .2)) refl)
+    let here = set-of (c .before .before .before .before .before .before .before .before .before .before .args .ends .now) (c .before .before .before .before .before .before .before .before .before .before .args .sets) (c .before .before .before .before .before .before .before .before .before .before .args .n) (c .before .before .before .before .before .before .before .before .before .before .pre .1) (c .before .before .before .before .before .before .before .sets .s) (c .before .before .before .before .loop .k) (c .before .before .before .before .before .before .sets-test .taken) (omega (arith, c .before .before .before .before .before .before .before .sets .inv .2)) (c .before .before .before .loop-test .taken) in
+    let first = c .before .before .before .before .loop .inv .3 ∙ stops _ _ _ (omega (arith, good-end (c .before .before .before .before .before .before) .within)) (sym (c .before .is-used .ensures) ∙ not-true _ (c .if1 .taken)) in
+    sym (stage-stops (setStage (c .before .before .before .before .before .before .before .before .before .before .args .used) (c .before .before .before .before .before .before .before .before .before .before .args .ends .now) (c .before .before .before .before .before .before .before .before .before .before .args .sets) (c .before .before .before .before .before .before .before .before .before .before .args .edges .now) (c .before .before .before .before .before .before .before .before .before .before .args .n)) _ first ∙ rw (here, ← (c .before .before .before .before .before .before .before .sets .inv .2)) refl)
 
 pub check-sets-spec : {M : Type 1} → statement M
 check-sets-spec =
@@ -110,11 +110,11 @@ check-sets-spec =
     shared-slice-read-end
     cast-end
     loop-holds
-    mul-if1
-    shared-slice-read-if1
-    cast-if1
-    sub-t21
-    add-t22
+    mul-is-used
+    shared-slice-read-is-used
+    is-used-requires
+    sub-t20
+    add-t21
     add-k
     loop-less
     loop-again

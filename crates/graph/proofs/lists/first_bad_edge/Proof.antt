@@ -1,10 +1,9 @@
 -- `graph::lists::first_bad_edge` meets its contract.
 -- Assumes nothing.
 use Prim.Native.Nat.{_-_, _≤_}
-use native.Mathlib.Omega.{arith}
 use native.Mathlib.Nat.{sub-zero}
 use mathlib.Core.Path.{_≡_, sym, _∙_}
-use borrow.Author.Tests.{lt-ltb, le-ltb}
+use borrow.Author.Tests.{not-true, not-false}
 use Rattle.graph.specs.Search.{firstBad}
 use Rattle.graph.specs.Leaves.{goodEdge}
 use Rattle.graph.proofs.Searching.{stops, goes-on, ended}
@@ -21,17 +20,17 @@ abbrev μ-loop : tie.MeasureT-loop
 loop-holds : tie.Need-loop-holds Inv-loop μ-loop
 loop-holds c = (search needs, rw sub-zero)
 
-mul-if1 : tie.Need-mul-if1 Inv-loop μ-loop
-mul-if1 c = search needs
+mul-is-used : tie.Need-mul-is-used Inv-loop μ-loop
+mul-is-used c = search needs
 
-shared-slice-read-if1 : tie.Need-shared-slice-read-if1 Inv-loop μ-loop
-shared-slice-read-if1 c = search needs
+shared-slice-read-is-used : tie.Need-shared-slice-read-is-used Inv-loop μ-loop
+shared-slice-read-is-used c = search needs
 
-cast-if1 : tie.Need-cast-if1 Inv-loop μ-loop
-cast-if1 c = omega (arith, c .shared-slice-known .given (c .before .before .loop .i))
+is-used-requires : tie.Need-is-used-requires Inv-loop μ-loop
+is-used-requires c κs = search needs
 
 returns : tie.Need-returns Inv-loop μ-loop
-returns c = sym (c .before .before .before .loop .inv .1 ∙ stops _ _ _ (c .before .before .loop-test .taken) (le-ltb _ _ (c .if1 .taken)))
+returns c = sym (c .before .before .before .before .loop .inv .1 ∙ stops _ _ _ (c .before .before .before .loop-test .taken) (sym (c .before .is-used .ensures) ∙ not-true _ (c .if1 .taken)))
 
 add-i : tie.Need-add-i Inv-loop μ-loop
 add-i c = search needs
@@ -40,7 +39,7 @@ loop-less : tie.Need-loop-less Inv-loop μ-loop
 loop-less c = search needs
 
 loop-again : tie.Need-loop-again Inv-loop μ-loop
-loop-again c = (search needs, c .before .before .before .loop .inv .1 ∙ goes-on _ _ _ (c .before .before .loop-test .taken) (lt-ltb _ _ (c .if1 .left)))
+loop-again c = (search needs, c .before .before .before .before .loop .inv .1 ∙ goes-on _ _ _ (c .before .before .before .loop-test .taken) (sym (c .before .is-used .ensures) ∙ not-false _ (c .if1 .left)))
 
 returns-2 : tie.Need-returns-2 Inv-loop μ-loop
 returns-2 c = sym (c .before .loop .inv .1 ∙ ended _ _ _ (c .loop-test .left))
@@ -52,9 +51,9 @@ first-bad-edge-spec =
     Inv-loop
     μ-loop
     loop-holds
-    mul-if1
-    shared-slice-read-if1
-    cast-if1
+    mul-is-used
+    shared-slice-read-is-used
+    is-used-requires
     returns
     add-i
     loop-less

@@ -1,6 +1,6 @@
 -- `graph::sizes::sizes` meets its contract.
 -- Assumes nothing.
-use Rattle.graph.specs.Graph.{sizes}
+use Rattle.graph.specs.Graph.{sizesRight}
 use borrow.Author.Needs.{needs}
 use Rattle.graph.proofs.sizes.sizes.Statement.{statement}
 use Rattle.graph.proofs.sizes.sizes.Tie as tie
@@ -33,7 +33,7 @@ fits-requires-8 : tie.Need-fits-requires-8
 fits-requires-8 c κs = search needs
 
 returns : tie.Need-returns
-unfolding sizes
+unfolding sizesRight
 returns c = simp (c .before .before .before .before .before .before .before .before .before .rows-fit .ensures, c .before .before .before .before .before .before .before .fits2 .ensures, c .before .before .before .before .before .before .fits3 .ensures, c .before .before .before .before .before .fits4 .ensures, c .before .before .before .before .fits5 .ensures, c .before .before .before .fits6 .ensures, c .before .before .fits7 .ensures, c .before .fits8 .ensures, c .fits9 .ensures)
 
 pub sizes-spec : {M : Type 1} → statement M
