@@ -1,8 +1,11 @@
 //! The calls of FORMAT.md, one file for each group of them. A group says how a random case is
 //! made and what is expected of it.
 
+mod build;
 pub mod check;
 mod edges;
+mod gates;
+pub mod making;
 mod rows;
 
 use crate::case::{Case, Outcome};
@@ -22,6 +25,9 @@ pub struct Call {
     pub counts: &'static [Count],
     /// The scalars that are row numbers.
     pub ids: &'static [usize],
+    /// The scalars that are edges, and the slots of no graph that hold edges.
+    pub edges: &'static [usize],
+    pub edge_slots: &'static [usize],
 }
 
 /// Which scalar counts the entries of a slot, and how many words an entry has.
@@ -50,7 +56,38 @@ pub const fn graph_counts(slot: usize, scalar: usize) -> [Count; SLICES] {
 }
 
 pub fn all() -> impl Iterator<Item = &'static Call> {
-    edges::CALLS.iter().chain(rows::CALLS).chain(check::CALLS)
+    edges::CALLS
+        .iter()
+        .chain(rows::CALLS)
+        .chain(check::CALLS)
+        .chain(build::CALLS)
+        .chain(gates::CALLS)
+}
+
+/// The calls of a list of numbers such as `1,2,51`, in the order of FORMAT.md; `all` is all.
+pub fn chosen(list: &str) -> Result<Vec<&'static Call>, String> {
+    if list == "all" {
+        return Ok(all().collect());
+    }
+    let numbers: Vec<&str> = list.split(',').collect();
+    let is_number = |call: &Call, number: &str| call.number.to_string() == number;
+    match numbers.iter().find(|n| !all().any(|c| is_number(c, n))) {
+        Some(number) => Err(format!("there is no call {number}")),
+        None => Ok(all()
+            .filter(|c| numbers.iter().any(|n| is_number(c, n)))
+            .collect()),
+    }
+}
+
+/// The same slices in another way: "A slot that is not given is lent empty", and the order does
+/// not matter.
+fn given_otherwise(rng: &mut Rng, mut case: Case) -> Case {
+    case.slots
+        .retain(|slot| !slot.words.is_empty() || rng.one_in(2));
+    if rng.one_in(4) {
+        rng.shuffle(&mut case.slots);
+    }
+    case
 }
 
 /// The call of a case.

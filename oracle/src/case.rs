@@ -130,6 +130,7 @@ impl Answer {
     pub const DONE: Answer = Answer::number(0);
     pub const BAD_SIZES: Answer = Answer::number(1);
     pub const BAD_ARGUMENT: Answer = Answer::number(4);
+    pub const NO_ROOM: Answer = Answer::number(5);
 
     const fn number(number: u64) -> Self {
         Self {

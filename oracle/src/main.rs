@@ -4,6 +4,7 @@
 mod calls;
 mod case;
 mod compare;
+mod construct;
 mod damaged;
 mod graph;
 mod program;
@@ -11,17 +12,20 @@ mod refuse;
 mod rng;
 mod sample;
 mod shrink;
+mod tables;
 mod wellformed;
 
+use calls::Call;
 use program::Program;
 use std::ffi::OsString;
 use std::io;
 use std::path::{Path, PathBuf};
 use std::process::ExitCode;
 
-const USAGE: &str = "oracle compare COUNT SEED FOLDER PROGRAM [ARGUMENT]...
-oracle sample write FOLDER
-oracle sample check FOLDER";
+/// CALLS are numbers with a comma between them, or `all`.
+const USAGE: &str = "oracle compare COUNT SEED CALLS FOLDER PROGRAM [ARGUMENT]...
+oracle sample write CALLS FOLDER
+oracle sample check CALLS FOLDER";
 
 fn main() -> ExitCode {
     let arguments: Vec<OsString> = std::env::args_os().skip(1).collect();
@@ -46,16 +50,26 @@ fn run(arguments: &[OsString]) -> Option<io::Result<bool>> {
         .map(|word| word.to_str().unwrap_or(""))
         .collect();
     match words.as_slice() {
-        ["compare", count, seed, folder, _, ..] => {
+        ["compare", count, seed, calls, folder, _, ..] => {
             let program = Program {
-                command: arguments[4..].to_vec(),
+                command: arguments[5..].to_vec(),
                 folder: PathBuf::from(folder),
             };
             let (count, seed) = (count.parse().ok()?, seed.parse().ok()?);
-            Some(compare::compare(&program, count, seed))
+            Some(chosen(calls).and_then(|c| compare::compare(&program, count, seed, &c)))
         }
-        ["sample", "write", folder] => Some(sample::write(Path::new(folder)).map(|()| true)),
-        ["sample", "check", folder] => Some(sample::check(Path::new(folder))),
+        ["sample", what, calls, folder] => {
+            let folder = Path::new(folder);
+            match *what {
+                "write" => Some(chosen(calls).and_then(|c| sample::write(folder, &c))),
+                "check" => Some(chosen(calls).and_then(|c| sample::check(folder, &c))),
+                _ => None,
+            }
+        }
         _ => None,
     }
+}
+
+fn chosen(calls: &str) -> io::Result<Vec<&'static Call>> {
+    calls::chosen(calls).map_err(io::Error::other)
 }

@@ -9,7 +9,7 @@ use std::collections::HashSet;
 
 /// "Limits, on what is lent: at most 1,048,576 rows; at most 65,536 entries a list (justice sets
 /// and justice edges each)".
-const MOST_ROWS: usize = 1_048_576;
+pub const MOST_ROWS: usize = 1_048_576;
 const MOST_ENTRIES: usize = 65_536;
 
 /// The refusals of a call that is lent one graph and one slice of marks, in their order.
@@ -23,17 +23,23 @@ pub fn refusal(graph: &Lent, marks: &[u32]) -> Option<Answer> {
 /// Answer 1 for the graph itself: "used rows 0 or above the lent rows, a limit passed by rows or
 /// a list, a list count above its room".
 pub fn bad_sizes(graph: &Lent) -> bool {
-    let lists = INPUTS..SLICES;
     bad_rows(graph.room(ROWS), graph.counts[ROWS])
-        || lists.clone().any(|list| graph.room(list) > MOST_ENTRIES)
-        || lists
-            .into_iter()
-            .any(|list| graph.counts[list] > graph.room(list) as u64)
+        || (INPUTS..SLICES).any(|list| bad_list(graph, list))
 }
 
 /// Answer 1 for the rows alone: "used rows 0 or above the lent rows, a limit passed by rows".
 pub fn bad_rows(lent: usize, used: u64) -> bool {
     used == 0 || used > lent as u64 || lent > MOST_ROWS
+}
+
+/// Answer 1 for one list: "a limit passed by [..] a list, a list count above its room".
+pub fn bad_list(graph: &Lent, list: usize) -> bool {
+    graph.room(list) > MOST_ENTRIES || graph.counts[list] > graph.room(list) as u64
+}
+
+/// Answer 1 for a list that is an argument, which is counted by its length.
+pub fn too_long(list: &[u32]) -> bool {
+    list.len() > MOST_ENTRIES
 }
 
 /// Answer 1 for a buffer: "work marks, flags or value buffers shorter than the used rows".
@@ -47,7 +53,7 @@ pub fn bad_contents(graph: &Lent) -> Option<Answer> {
 }
 
 /// "a used row is none of the three kinds at its place", "smallest such row".
-fn bad_row(graph: &Lent) -> Option<Answer> {
+pub fn bad_row(graph: &Lent) -> Option<Answer> {
     let row = (0..graph.counted(ROWS)).find(|&i| graph.kind(i).is_none())?;
     Some(Answer::bad_row(row as u64))
 }

@@ -1,6 +1,6 @@
 //! The stored sample: a small script with every call, and what is expected of it.
 
-use crate::calls::{self, Call, LIST};
+use crate::calls::{self, Call, LIST, making};
 use crate::case::{Answer, Case};
 use crate::compare::random_case;
 use crate::graph::{EDGES, ENDS, FAIRNESS, INPUTS, LATCHES, LEAF, Lent, NONE, OUTPUTS, ROWS};
@@ -51,16 +51,17 @@ struct Sample {
     stdout: String,
 }
 
-pub fn write(folder: &Path) -> io::Result<()> {
-    let sample = sample();
+pub fn write(folder: &Path, calls: &[&Call]) -> io::Result<bool> {
+    let sample = sample(calls);
     fs::create_dir_all(folder)?;
     fs::write(folder.join("stdin"), sample.stdin)?;
-    fs::write(folder.join("stdout"), sample.stdout)
+    fs::write(folder.join("stdout"), sample.stdout)?;
+    Ok(true)
 }
 
 /// Are the stored files what would be written?
-pub fn check(folder: &Path) -> io::Result<bool> {
-    let sample = sample();
+pub fn check(folder: &Path, calls: &[&Call]) -> io::Result<bool> {
+    let sample = sample(calls);
     let stored = |name| fs::read_to_string(folder.join(name));
     let same = stored("stdin")? == sample.stdin && stored("stdout")? == sample.stdout;
     let verdict = if same { "is" } else { "is NOT" };
@@ -68,15 +69,16 @@ pub fn check(folder: &Path) -> io::Result<bool> {
     Ok(same)
 }
 
-fn sample() -> Sample {
+fn sample(calls: &[&Call]) -> Sample {
     let mut sample = Sample {
         stdin: String::new(),
         stdout: String::new(),
     };
-    for (title, case) in marked_cases() {
+    let is_of = |case: &Case| calls.iter().any(|call| call.number == case.call);
+    for (title, case) in marked_cases().into_iter().filter(|(_, case)| is_of(case)) {
         sample.push(title, &case);
     }
-    for call in calls::all() {
+    for call in calls {
         for case in random_cases(call) {
             sample.push("", &case);
         }
@@ -135,6 +137,10 @@ fn marked_cases() -> Vec<(&'static str, Case)> {
     cases.extend(row_cases());
     cases.extend(well_formed_cases());
     cases.extend(refused_cases());
+    cases.extend(new_and_leaf_cases());
+    cases.extend(latch_cases());
+    cases.extend(gate_cases());
+    cases.extend(list_cases());
     cases
 }
 
@@ -223,6 +229,109 @@ fn second_set(graph: &mut Lent) {
     graph.count_all();
 }
 
+/// A constructor on a graph with free rows behind it; the counts of the lists stay as they are.
+fn constructor(call: u64, graph: &Lent, free: usize, lent: &[usize], arguments: &[u64]) -> Case {
+    let mut graph = graph.clone();
+    graph.words[ROWS].extend([7].repeat(2 * free));
+    making::case(call, &graph, lent, arguments)
+}
+
+/// Row 0 and two leaves, both inputs: "three used rows".
+fn three_rows() -> Lent {
+    graph(&[LEAF, LEAF], &[1, 2], &[], &[])
+}
+
+fn new_and_leaf_cases() -> Vec<(&'static str, Case)> {
+    let new = |words: &[u32]| Case::new(40, &[]).lend(ROWS, words.to_vec());
+    let leaf = |graph: &Lent, free| constructor(41, graph, free, &[ROWS], &[]);
+    let input = |call, free, words: &[u32], arguments: &[u64]| {
+        let mut graph = three_rows();
+        graph.words[INPUTS] = words.to_vec();
+        constructor(call, &graph, free, &[ROWS, INPUTS], arguments)
+    };
+    let mut unscanned = three_rows();
+    unscanned.words[ROWS].fill(9);
+    unscanned.counts[FAIRNESS] = u64::MAX;
+    vec![
+        ("room-for-row-0", new(&[7, 7, 7])),
+        ("no-room-for-row-0", new(&[7])),
+        ("leaf", leaf(&table_x(), 1)),
+        ("full", leaf(&table_x(), 0)),
+        ("neither-rows-nor-other-counts", leaf(&unscanned, 1)),
+        ("input", input(42, 1, &[1, 2, 7], &[])),
+        ("no-entry-free", input(42, 1, &[1, 2], &[])),
+        ("no-row-free", input(42, 0, &[1, 2, 7], &[])),
+        ("any-used-id", input(43, 0, &[1, 2, 7], &[0])),
+        ("last-used-id", input(43, 0, &[1, 2, 7], &[2])),
+        ("first-unused-id", input(43, 1, &[1, 2, 7], &[3])),
+    ]
+}
+
+/// Three used rows, a row free, and room for one latch.
+fn latch_cases() -> Vec<(&'static str, Case)> {
+    let none = u64::from(NONE);
+    let latch = |call, arguments: &[u64]| {
+        let mut graph = three_rows();
+        graph.words[LATCHES] = vec![7; 4];
+        constructor(call, &graph, 1, &[ROWS, LATCHES], arguments)
+    };
+    vec![
+        ("no-init", latch(44, &[5, none])),
+        ("init-true", latch(44, &[0, 1])),
+        ("its-own-row-as-next", latch(44, &[6, none])),
+        ("none-as-next", latch(44, &[none, none])),
+        ("init-not-used", latch(44, &[0, 6])),
+        ("any-used-id", latch(45, &[0, 5, none])),
+        ("first-unused-id", latch(45, &[3, 5, none])),
+    ]
+}
+
+/// "M1 and(2,2) is 2; M2 and(2,3) is 0; M3 and(1,5) is 5; M4 and(0,5) is 0: no row." "M5 three
+/// used rows: and(4,2) adds row 3 = (2,4), answers 6; eq(2,4) on those three adds X's last rows
+/// and answers 11." "M6 eq(2,2) is 1, no row." What folds is called on the full table X.
+fn gate_cases() -> Vec<(&'static str, Case)> {
+    let full = |call, edges| constructor(call, &table_x(), 0, &[ROWS], edges);
+    let three = |call, free, edges| constructor(call, &three_rows(), free, &[ROWS], edges);
+    vec![
+        ("M1", full(51, &[2, 2])),
+        ("M2", full(51, &[2, 3])),
+        ("M3", full(51, &[1, 5])),
+        ("M4", full(51, &[0, 5])),
+        ("M5", three(51, 3, &[4, 2])),
+        ("M5", three(59, 3, &[2, 4])),
+        ("M6", full(59, &[2, 2])),
+        ("full", full(51, &[2, 4])),
+        ("one-row-short", three(59, 2, &[2, 4])),
+        ("edge-not-used", full(51, &[0, 12])),
+        ("smaller-id-first", three(50, 1, &[5, 2])),
+        ("order-of-equal-ids", three(50, 1, &[3, 2])),
+        ("no-folding", full(50, &[2, 2])),
+        ("or", three(52, 1, &[5, 2])),
+        ("or-of-complements", full(53, &[4, 5])),
+        ("imply", three(58, 1, &[2, 4])),
+        ("imply-itself", full(58, &[4, 4])),
+    ]
+}
+
+/// "empty ands is true, empty ors is false, one entry is itself"
+fn list_cases() -> Vec<(&'static str, Case)> {
+    let list = |call, free, edges: &[u32]| {
+        let case = constructor(call, &three_rows(), free, &[ROWS], &[]);
+        case.lend(LIST, edges.to_vec())
+    };
+    let mut cases = Vec::new();
+    for call in 54..=57 {
+        cases.push(("empty", list(call, 0, &[])));
+        cases.push(("itself", list(call, 0, &[3])));
+        cases.push(("not-used", list(call, 1, &[6])));
+        cases.push(("three", list(call, 2, &[4, 2, 3])));
+        cases.push(("one-row-short", list(call, 1, &[4, 2, 3])));
+        cases.push(("equal", list(call, 0, &[4, 4, 4])));
+        cases.push(("a-row-and-a-constant", list(call, 2, &[4, 2, 0, 1])));
+    }
+    cases
+}
+
 /// "Table X: rows 0, leaf 1, leaf 2, 3 = (2,4), 4 = (3,5), 5 = (7,9); inputs 1, 2; output 10."
 fn table_x() -> Lent {
     graph(&[LEAF, LEAF, [2, 4], [3, 5], [7, 9]], &[1, 2], &[], &[10])
@@ -247,4 +356,55 @@ fn graph(rows: &[[u32; 2]], inputs: &[u32], latches: &[[u32; 3]], outputs: &[u32
     graph.words[OUTPUTS] = outputs.to_vec();
     graph.count_all();
     graph
+}
+
+#[cfg(test)]
+mod tests {
+    use super::*;
+
+    #[test]
+    fn m1_to_m6_answer_as_document_01_says() {
+        let marked = gate_cases();
+        let answers = marked.iter().take(7).map(|(title, case)| {
+            let outcome = (calls::of(case).expected)(case);
+            assert_eq!(outcome.answer, Answer::DONE);
+            (*title, outcome.results[0], outcome.results[9])
+        });
+        let expected = [
+            ("M1", 6, 2),
+            ("M2", 6, 0),
+            ("M3", 6, 5),
+            ("M4", 6, 0),
+            ("M5", 4, 6),
+            ("M5", 6, 11),
+            ("M6", 6, 1),
+        ];
+        assert_eq!(answers.collect::<Vec<_>>(), expected);
+        let eq = (calls::of(&marked[5].1).expected)(&marked[5].1);
+        assert_eq!(eq.slots[0].words, table_x().words[ROWS]);
+    }
+
+    #[test]
+    fn the_sample_is_small_and_has_every_call() {
+        let calls: Vec<&Call> = calls::all().collect();
+        let sample = sample(&calls);
+        assert!(sample.stdin.len() + sample.stdout.len() < 160_000);
+        for call in calls {
+            assert!(sample.stdin.contains(&format!("{} ", call.name)));
+        }
+    }
+
+    #[test]
+    fn a_sample_of_some_calls() {
+        let calls = calls::chosen("40,6").expect("both are calls");
+        let sample = sample(&calls);
+        let calls = sample.stdin.lines().filter(|line| !line.starts_with(' '));
+        let is_chosen = |line: &str| {
+            ["edge::constant", "build::new", "end"]
+                .iter()
+                .any(|name| line.contains(name))
+        };
+        assert!(calls.clone().all(is_chosen));
+        assert!(calls::chosen("6,31").is_err());
+    }
 }

@@ -2,7 +2,7 @@
 
 use crate::calls::{self, Call};
 use crate::case::Case;
-use crate::graph::{EDGES, ENDS, INPUTS, LATCHES, LEAF, ROW_0, ROWS, SLICES};
+use crate::graph::{EDGES, ENDS, INPUTS, LATCHES, ROW_0, ROWS, SLICES};
 use std::ops::Range;
 
 /// The smallest case found in a bounded number of tries.
@@ -75,7 +75,7 @@ impl Shrinker<'_> {
             let renumbered = count.map(|count| {
                 let mut case = plain.clone();
                 lower_count(&mut case.scalars[count.scalar], &range);
-                renumber(&mut case, slot, &range, self.call.ids);
+                renumber(&mut case, slot, &range, self.call);
                 case
             });
             let taken = renumbered.is_some_and(|case| self.attempt(case));
@@ -132,7 +132,7 @@ fn lower_count(count: &mut u64, dropped: &Range<usize>) {
 
 /// Without some rows the later ids are smaller, and the edges to a dropped row become constants;
 /// without some justice edges the ends are smaller.
-fn renumber(case: &mut Case, slot: usize, dropped: &Range<usize>, ids: &[usize]) {
+fn renumber(case: &mut Case, slot: usize, dropped: &Range<usize>, call: &Call) {
     let graph = slot - slot % SLICES;
     let slices = case.slots.iter_mut().filter_map(|slot| {
         let slice = slot.number.checked_sub(graph)?;
@@ -141,10 +141,7 @@ fn renumber(case: &mut Case, slot: usize, dropped: &Range<usize>, ids: &[usize])
     match slot - graph {
         ROWS => {
             slices.for_each(|(slice, words)| renumber_ids(slice, words, dropped));
-            for &id in ids {
-                let lower = lower_id(case.scalars[id] as usize, dropped);
-                case.scalars[id] = lower as u64;
-            }
+            renumber_arguments(case, dropped, call);
         }
         EDGES => {
             for (_, ends) in slices.filter(|(slice, _)| *slice == ENDS) {
@@ -158,6 +155,21 @@ fn renumber(case: &mut Case, slot: usize, dropped: &Range<usize>, ids: &[usize])
     }
 }
 
+fn renumber_arguments(case: &mut Case, dropped: &Range<usize>, call: &Call) {
+    for &id in call.ids {
+        case.scalars[id] = lower_id(case.scalars[id] as usize, dropped) as u64;
+    }
+    for &edge in call.edges {
+        case.scalars[edge] = lower_edge(case.word(edge), dropped).into();
+    }
+    let edge_slots = case.slots.iter_mut();
+    for slot in edge_slots.filter(|slot| call.edge_slots.contains(&slot.number)) {
+        for edge in &mut slot.words {
+            *edge = lower_edge(*edge, dropped);
+        }
+    }
+}
+
 fn lower_id(id: usize, dropped: &Range<usize>) -> usize {
     match id {
         id if id < dropped.start => id,
@@ -166,14 +178,21 @@ fn lower_id(id: usize, dropped: &Range<usize>) -> usize {
     }
 }
 
+/// The first words of row 0 and of a leaf, which is the none word too, stay.
+fn lower_edge(edge: u32, dropped: &Range<usize>) -> u32 {
+    if edge >= ROW_0[0] {
+        return edge;
+    }
+    2 * lower_id(edge as usize / 2, dropped) as u32 + edge % 2
+}
+
 fn renumber_ids(slice: usize, words: &mut [u32], dropped: &Range<usize>) {
-    let marked = [ROW_0[0], LEAF[0]];
     for (index, word) in words.iter_mut().enumerate() {
         let is_id = slice == INPUTS || (slice == LATCHES && index % 3 == 0);
         *word = match *word {
-            word if slice == ENDS || marked.contains(&word) => word,
+            word if slice == ENDS || word >= ROW_0[0] => word,
             word if is_id => lower_id(word as usize, dropped) as u32,
-            word => 2 * lower_id(word as usize / 2, dropped) as u32 + word % 2,
+            word => lower_edge(word, dropped),
         };
     }
 }
@@ -181,8 +200,8 @@ fn renumber_ids(slice: usize, words: &mut [u32], dropped: &Range<usize>) {
 #[cfg(test)]
 mod tests {
     use super::*;
-    use crate::calls::check;
-    use crate::graph::{Lent, NONE};
+    use crate::calls::{LIST, check, making};
+    use crate::graph::{LEAF, Lent, NONE};
 
     fn expected(case: &Case) -> crate::case::Answer {
         (calls::of(case).expected)(case).answer
@@ -207,5 +226,21 @@ mod tests {
         let smallest = shrink(&case, 2_000, &mut fails);
         assert!(fails(&smallest));
         assert!(smallest.words() <= 6, "{smallest:?}");
+    }
+
+    /// 40 rows and 30 edges of the last ones, of which one does not fold: no row is free for it.
+    #[test]
+    fn a_list_of_edges_shrinks_with_the_rows_below_it() {
+        let mut graph = Lent::new();
+        graph.words[ROWS].extend(LEAF.repeat(39));
+        graph.count_all();
+        let mut edges = vec![78; 30];
+        edges[20] = 76;
+        let case = making::case(55, &graph, &[ROWS], &[]).lend(LIST, edges);
+        let mut fails = |case: &Case| expected(case).number == 5;
+        assert!(fails(&case));
+        let smallest = shrink(&case, 2_000, &mut fails);
+        assert!(fails(&smallest));
+        assert!(smallest.words() <= 8, "{smallest:?}");
     }
 }

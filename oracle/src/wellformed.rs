@@ -69,7 +69,7 @@ pub fn graph(rng: &mut Rng, size: Size) -> Lent {
 }
 
 /// The rows alone, with no room beyond them.
-fn rows(rng: &mut Rng, count: usize) -> Lent {
+pub fn rows(rng: &mut Rng, count: usize) -> Lent {
     let mut graph = Lent::new();
     let gates = rng.between(1, 9);
     while graph.room(ROWS) < count {
@@ -88,7 +88,7 @@ fn rows(rng: &mut Rng, count: usize) -> Lent {
 }
 
 /// An edge to one of the first rows, with some weight on row 0 and on the last ones.
-fn edge(rng: &mut Rng, rows: usize) -> u32 {
+pub fn edge(rng: &mut Rng, rows: usize) -> u32 {
     let id = match rng.below(8) {
         0 => 0,
         1..4 => rows - 1 - rng.below(rows.min(4)),

@@ -1,5 +1,5 @@
 // The check of a graph, 30.
-use crate::arguments::size;
+use crate::arguments::counts;
 use crate::lending;
 use crate::outcome::Outcome;
 use crate::outcome::of_answer;
@@ -8,7 +8,6 @@ use crate::slots;
 use crate::slots::MARKS;
 use crate::slots::words;
 use edge::Answer;
-use graph::Counts;
 
 // The call writes the marks.
 pub fn run(
@@ -44,19 +43,4 @@ fn checked(arena: &[u32], scalars: &[u64], marks: &mut [u32]) -> Answer {
         counts(scalars),
         marks,
     )
-}
-
-// The counts of a graph, which are the first nine scalars.
-fn counts(scalars: &[u64]) -> Counts {
-    Counts {
-        rows: size(scalars, 0),
-        inputs: size(scalars, 1),
-        latches: size(scalars, 2),
-        constraints: size(scalars, 3),
-        bads: size(scalars, 4),
-        outputs: size(scalars, 5),
-        sets: size(scalars, 6),
-        edges: size(scalars, 7),
-        fairness: size(scalars, 8),
-    }
 }

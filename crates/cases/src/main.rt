@@ -1,5 +1,6 @@
 // Replays a script of cases from standard input, and writes what each call answers and leaves.
 mod arguments;
+mod build_calls;
 mod check_call;
 mod edges;
 mod lending;
@@ -30,12 +31,16 @@ fn main() {
     let mut arena = [0u32; 600096];
     let mut scalars = [0u64; 32];
     let mut marks = [0u32; 65600];
+    let mut rows = [0u32; 131200];
+    let mut list = [0u32; 196800];
     with(
         &mut input,
         &mut output,
         &mut arena,
         &mut scalars,
         &mut marks,
+        &mut rows,
+        &mut list,
     );
 }
 
@@ -46,8 +51,10 @@ fn with(
     arena: &mut [u32; 600096],
     scalars: &mut [u64; 32],
     marks: &mut [u32; 65600],
+    rows: &mut [u32; 131200],
+    list: &mut [u32; 196800],
 ) {
-    start(input, output, arena, scalars, marks);
+    start(input, output, arena, scalars, marks, rows, list);
 }
 
 // Replays case after case. Each group of calls makes the call if it is one of its own, and else hands on the outcome that it was given; so
@@ -61,6 +68,8 @@ fn start(
     arena: &mut [u32],
     scalars: &mut [u64],
     marks: &mut [u32],
+    rows: &mut [u32],
+    list: &mut [u32],
 ) {
     let mut run = Run {
         reader: reader::new(),
@@ -72,6 +81,7 @@ fn start(
         let case = script::next_case(input, arena, scalars, run.reader);
         let mut o = reading(case.call, arena, scalars);
         o = check_call::run(case.call, o, arena, scalars, marks);
+        o = build_calls::run(case.call, o, arena, scalars, rows, list);
         run = written(output, arena, run.writer, case, o);
     }
     finish(output, run);

@@ -3,6 +3,7 @@ use edge::Answer;
 use edge::BoolAnswer;
 use edge::EdgeAnswer;
 use edge::Given;
+use graph::Counts;
 
 // `is_known` is false where there is no such call, or the case does not fit the arrays that the call writes to. Only the first `count`
 // results are the call's.
@@ -53,6 +54,30 @@ pub fn of_pair(a: Answer, count: usize, first: u32, second: u32) -> Outcome {
         answer: edge::told(a),
         count,
         results: [first as u64, second as u64, 0, 0, 0, 0, 0, 0, 0, 0, 0, 0],
+    }
+}
+
+// An answer with the nine counts, and then `more` of one word.
+pub fn of_counts(a: Answer, n: Counts, more: usize, word: u32) -> Outcome {
+    let lists = [
+        n.rows as u64,
+        n.inputs as u64,
+        n.latches as u64,
+        n.constraints as u64,
+        n.bads as u64,
+        n.outputs as u64,
+        n.sets as u64,
+        n.edges as u64,
+        n.fairness as u64,
+        word as u64,
+        0,
+        0,
+    ];
+    Outcome {
+        is_known: true,
+        answer: edge::told(a),
+        count: if more == 0 { 9 } else { 10 },
+        results: lists,
     }
 }
 

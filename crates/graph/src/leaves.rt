@@ -53,7 +53,7 @@ fn first_bad_input(rows: &[u32], used: usize, inputs: &[u32], n: usize, marks: &
 }
 
 // Is next an edge to a used row, and init such an edge or none?
-fn latch_edges(used: usize, l: Latch) -> bool
+pub fn latch_edges(used: usize, l: Latch) -> bool
     ensures { λ r. ⌜ r ≡ latchEdges used l ⌝ }
 {
     is_used(l.next, used) & ((l.init == kinds::NONE) | is_used(l.init, used))

@@ -1,11 +1,11 @@
 // A graph as it is lent, and the check of it that every call on a whole graph begins with: answers 1, 2 and 3 of document 01.
 mod contents;
 mod justice;
-mod latch;
-mod leaves;
-mod lists;
-mod marks;
-mod search;
+pub mod latch;
+pub mod leaves;
+pub mod lists;
+pub mod marks;
+pub mod search;
 mod sizes;
 
 ghost use mathlib.Core.Path.{_≡_};

@@ -1,6 +1,6 @@
 //! Call 30: the check of a whole graph.
 
-use super::{Call, Count, MARKS, graph_counts};
+use super::{Call, Count, MARKS, given_otherwise, graph_counts};
 use crate::case::{Answer, Case, Outcome, Slot};
 use crate::damaged;
 use crate::graph::{Lent, ROWS, SLICES, of_aig, to_aig};
@@ -17,6 +17,8 @@ pub const CALLS: &[Call] = &[Call {
     expected,
     counts: &COUNTS,
     ids: &[],
+    edges: &[],
+    edge_slots: &[],
 }];
 
 const COUNTS: [Count; SLICES] = graph_counts(0, 0);
@@ -28,14 +30,7 @@ fn random(rng: &mut Rng, _: u64) -> Case {
     } else {
         damaged::marked(rng, size)
     };
-    let mut case = case(&graph, marks);
-    // a slot that is not given is lent empty too
-    case.slots
-        .retain(|slot| !slot.words.is_empty() || rng.one_in(2));
-    if rng.one_in(4) {
-        rng.shuffle(&mut case.slots);
-    }
-    case
+    given_otherwise(rng, case(&graph, marks))
 }
 
 /// The graph and its marks, every slice given.

@@ -37,6 +37,8 @@ const fn call(
         expected,
         counts: &[],
         ids: &[],
+        edges: &[],
+        edge_slots: &[],
     }
 }
 

@@ -29,6 +29,8 @@ const fn call(number: u64, name: &'static str, expected: fn(&Case) -> Outcome) -
             width: 2,
         }],
         ids: &[1],
+        edges: &[],
+        edge_slots: &[],
     }
 }
 
@@ -57,7 +59,7 @@ fn random(rng: &mut Rng, call: u64) -> Case {
 
 /// Mostly a used row, at times one at the boundary. Ids stay below 2^32, so that it does not
 /// matter how wide the argument is.
-fn random_id(rng: &mut Rng, used: usize) -> u64 {
+pub fn random_id(rng: &mut Rng, used: usize) -> u64 {
     match rng.below(8) {
         0 => rng.pick(&[0, used, used + 1, 1 << 31, u32::MAX as usize]) as u64,
         1 => u64::from(rng.word()),

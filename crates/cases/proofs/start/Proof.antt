@@ -9,11 +9,11 @@ use Rattle.cases.proofs.start.Statement.{statement}
 use Rattle.cases.proofs.start.Tie as tie
 
 abbrev Inv-loop : tie.InvT-loop
-Inv-loop input₀ output₀ arena₀ scalars₀ marks₀ run₀ turns₀ input output arena scalars marks run turns =
-    (length input ≡ length input₀) × (length output ≡ length output₀) × (length arena ≡ length arena₀) × (length scalars ≡ length scalars₀) × (length marks ≡ length marks₀)
+Inv-loop input₀ output₀ arena₀ scalars₀ marks₀ rows₀ list₀ run₀ turns₀ input output arena scalars marks rows list run turns =
+    (length input ≡ length input₀) × (length output ≡ length output₀) × (length arena ≡ length arena₀) × (length scalars ≡ length scalars₀) × (length marks ≡ length marks₀) × (length rows ≡ length rows₀) × (length list ≡ length list₀)
 
 abbrev μ-loop : tie.MeasureT-loop
-μ-loop input₀ output₀ arena₀ scalars₀ marks₀ run₀ turns₀ input output arena scalars marks run turns = turns
+μ-loop input₀ output₀ arena₀ scalars₀ marks₀ rows₀ list₀ run₀ turns₀ input output arena scalars marks rows list run turns = turns
 
 new-requires : tie.Need-new-requires Inv-loop μ-loop
 new-requires c κs = search needs
@@ -39,23 +39,29 @@ reading-requires c κs = search needs
 run-requires : tie.Need-run-requires Inv-loop μ-loop
 run-requires c κs = search needs
 
+run-requires-2 : tie.Need-run-requires-2 Inv-loop μ-loop
+run-requires-2 c κs = search needs
+
 written-requires : tie.Need-written-requires Inv-loop μ-loop
 written-requires c κs = search needs
 
 loop-less : tie.Need-loop-less Inv-loop μ-loop
-loop-less c = omega (arith, c .before .before .before .before .before .before .before .before .before .before .before .before .before .before .before .before .before .before .before .before .before .before .before .before .before .before .before .before .loop-test .taken)
+loop-less c = omega (arith, c .before .before .before .before .before .before .before .before .before .before .before .before .before .before .before .before .before .before .before .before .before .before .before .before .before .before .before .before .before .before .before .before .before .before .before .before .before .before .before .loop-test .taken)
 
 loop-again : tie.Need-loop-again Inv-loop μ-loop
 loop-again c =
     let at-written = c .before .before in
-    let at-run = at-written .before .before .before .before .before .before .before in
+    let at-build = at-written .before .before .before .before .before .before .before .before .before in
+    let at-run = at-build .before .before .before .before .before .before .before .before .before in
     let at-next-case = at-run .before .before .before .before .before .before .before .before .before .before .before .before .before in
     let at-loop = at-next-case .before .before .before .before .before .before .before in (
       at-next-case .next-case .kept .0 ∙ at-loop .loop .inv .0,
       at-written .written .kept .0 ∙ at-loop .loop .inv .1,
-      at-run .run .kept .1 .1 .0 ∙ at-next-case .next-case .kept .1 .0 ∙ at-loop .loop .inv .2,
+      at-build .run2 .kept .1 .1 .0 ∙ (at-run .run .kept .1 .1 .0 ∙ (at-next-case .next-case .kept .1 .0 ∙ at-loop .loop .inv .2)),
       at-next-case .next-case .kept .1 .1 .0 ∙ at-loop .loop .inv .3,
       at-run .run .kept .1 .1 .1 .1 .0 ∙ at-loop .loop .inv .4,
+      at-build .run2 .kept .1 .1 .1 .1 .0 ∙ at-loop .loop .inv .5,
+      at-build .run2 .kept .1 .1 .1 .1 .1 .0 ∙ at-loop .loop .inv .6,
     )
 
 finish-requires : tie.Need-finish-requires Inv-loop μ-loop
@@ -76,6 +82,12 @@ same-length-4 c = search needs
 same-length-5 : tie.Need-same-length-5 Inv-loop μ-loop
 same-length-5 c = search needs
 
+same-length-6 : tie.Need-same-length-6 Inv-loop μ-loop
+same-length-6 c = search needs
+
+same-length-7 : tie.Need-same-length-7 Inv-loop μ-loop
+same-length-7 c = search needs
+
 returns : tie.Need-returns Inv-loop μ-loop
 returns c = search needs
 
@@ -93,6 +105,7 @@ start-spec =
     next-case-requires
     reading-requires
     run-requires
+    run-requires-2
     written-requires
     loop-less
     loop-again
@@ -102,4 +115,6 @@ start-spec =
     same-length-3
     same-length-4
     same-length-5
+    same-length-6
+    same-length-7
     returns)

@@ -1,0 +1,54 @@
+-- `build::leaves::new` meets its contract.
+-- Assumes nothing.
+use mathlib.Core.Path.{_∙_}
+use mathlib.Core.List.{[]}
+use Rattle.edge.proofs.Answers.{test-done, test-refused}
+use Rattle.build.proofs.Answering.{call-refused, call-done}
+use Rattle.build.proofs.Calling.{built-seen}
+use Rattle.build.specs.Leaves.{newCall, noCounts}
+use borrow.Author.Needs.{needs}
+use Rattle.build.proofs.leaves.new.Statement.{statement}
+use Rattle.build.proofs.leaves.new.Tie as tie
+
+no-counts-requires : tie.Need-no-counts-requires
+no-counts-requires c κs = search needs
+
+answered-requires : tie.Need-answered-requires
+answered-requires c κs = search needs
+
+is-done-requires : tie.Need-is-done-requires
+is-done-requires c κs = search needs
+
+refused-requires : tie.Need-refused-requires
+refused-requires c κs = search needs
+
+returns : tie.Need-returns
+unfolding newCall
+returns c = built-seen _ _ (c .refused .ensures) ∙ rw (c .before .before .before .before .no-counts .ensures) (call-refused (c .before .before .before .before .before .before .args .rows .now) [] noCounts _ (c .before .before .before .answered .ensures) (test-refused (c .before .before .before .answered .ensures) (c .before .before .is-done .ensures) (c .before .if1 .taken)))
+
+add-row-requires : tie.Need-add-row-requires
+add-row-requires c κs = search needs
+
+counted-requires : tie.Need-counted-requires
+counted-requires c κs = search needs
+
+same-length : tie.Need-same-length
+same-length c = search needs
+
+returns-2 : tie.Need-returns-2
+unfolding newCall
+returns-2 c = call-done (c .before .before .before .before .before .before .before .before .before .before .args .rows .now) [] noCounts _ (c .before .before .before .before .before .before .before .answered .ensures) (test-done (c .before .before .before .before .before .before .before .answered .ensures) (c .before .before .before .before .before .before .is-done .ensures) (c .before .before .before .before .before .if1 .left)) _ (rw (c .before .before .before .add-row .ensures, c .counted .ensures, c .before .before .before .before .before .before .before .before .no-counts .ensures))
+
+pub new-spec : {M : Type 1} → statement M
+new-spec =
+    tie.close
+    (tie.spec
+    no-counts-requires
+    answered-requires
+    is-done-requires
+    refused-requires
+    returns
+    add-row-requires
+    counted-requires
+    same-length
+    returns-2)

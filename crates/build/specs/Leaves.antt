@@ -1,0 +1,85 @@
+-- The first row, leaves, inputs and latches.
+-- Assumes nothing.
+use Prim.Native.Nat.{ℕ, _+_, _*_}
+use mathlib.Core.List.{List, []}
+use mathlib.Core.Bool.{Bool, true, _&&_}
+use lib.ListN.{length, set}
+use lib.Dec.{ltb, leb}
+use Rattle.edge.specs.declared.answer.Given.{Given}
+use Rattle.rows.specs.Sizes.{maxRows, maxEntries, fits, rowsLent, rowsFit}
+use Rattle.rows.specs.Rows.{falseWord, none}
+use Rattle.graph.specs.declared.Counts.{Counts}
+use Rattle.graph.specs.declared.latch.Latch.{Latch}
+use Rattle.graph.specs.Latches.{latchWords, latchesLent}
+use Rattle.graph.specs.Leaves.{latchEdges}
+use Rattle.build.specs.Calls.{answerOf, counted, left, Seen, callOf}
+use Rattle.build.specs.Gates.{rowAdded}
+
+-- ---- the first row: "Row 0 is (4294967294, 0)"
+abbrev pub noCounts : Counts
+noCounts = record { rows = 0; inputs = 0; latches = 0; constraints = 0; bads = 0; outputs = 0; sets = 0; edges = 0; fairness = 0 }
+
+abbrev pub firstRow : List ℕ → List ℕ
+firstRow rows = rowAdded rows 0 falseWord 0
+
+-- `new` has row 0 alone. It is lent rows and no counts.
+unfoldable pub newCall : List ℕ → Seen
+newCall rows =
+    callOf (answerOf (leb (rowsLent rows) maxRows) true (ltb 0 (rowsLent rows))) rows [] noCounts (left (firstRow rows) [] (counted noCounts 1 0 0) 0)
+
+-- ---- a leaf: "A leaf, at any later row, is (4294967295, 0)"
+abbrev pub leafAdded : List ℕ → ℕ → List ℕ
+leafAdded rows used = rowAdded rows used none 0
+
+abbrev pub freeRow : List ℕ → ℕ → Bool
+freeRow rows used = ltb used (rowsLent rows)
+
+unfoldable pub leafAnswer : List ℕ → ℕ → Given
+leafAnswer rows used = answerOf (rowsFit used rows) true (freeRow rows used)
+
+unfoldable pub leafCall : List ℕ → Counts → Seen
+leafCall rows n =
+    callOf (leafAnswer rows (n .rows)) rows [] n
+    (left (leafAdded rows (n .rows)) [] (counted n (n .rows + 1) (n .inputs) (n .latches)) (n .rows))
+
+-- ---- inputs: each takes the next entry of the list
+-- where the argument is `good`, and `row` says that a row is free or that none is needed
+unfoldable pub inputAnswer : List ℕ → List ℕ → Counts → Bool → Bool → Given
+inputAnswer rows inputs n good row =
+    answerOf (rowsFit (n .rows) rows && fits (n .inputs) (length inputs) maxEntries) good (row && ltb (n .inputs) (length inputs))
+
+-- a new leaf, listed
+unfoldable pub newInputCall : List ℕ → List ℕ → Counts → Seen
+newInputCall rows inputs n =
+    callOf (inputAnswer rows inputs n true (freeRow rows (n .rows))) rows inputs n
+    (left (leafAdded rows (n .rows)) (set inputs (n .inputs) (n .rows)) (counted n (n .rows + 1) (n .inputs + 1) (n .latches)) (n .rows))
+
+-- "So `add_input` and `add_latch` take any used id"
+unfoldable pub addInputCall : List ℕ → List ℕ → Counts → ℕ → Seen
+addInputCall rows inputs n input =
+    callOf (inputAnswer rows inputs n (ltb input (n .rows)) true) rows inputs n
+    (left rows (set inputs (n .inputs) input) (counted n (n .rows) (n .inputs + 1) (n .latches)) input)
+
+-- ---- latches
+abbrev pub latch : ℕ → ℕ → ℕ → Latch
+latch input next init = record { input = input; next = next; init = init }
+
+-- latch i is written: its words stand where `latchAt` reads them
+unfoldable pub latchSet : List ℕ → ℕ → Latch → List ℕ
+latchSet latches i l =
+    set (set (set latches (latchWords * i) (l .input)) (latchWords * i + 1) (l .next)) (latchWords * i + 2) (l .init)
+
+unfoldable pub latchAnswer : List ℕ → List ℕ → Counts → Bool → Bool → Given
+latchAnswer rows latches n good row =
+    answerOf (rowsFit (n .rows) rows && fits (n .latches) (latchesLent latches) maxEntries) good (row && ltb (n .latches) (latchesLent latches))
+
+-- "4 for an edge .. that is not used (the none word as init is no edge)": the new row is not used yet
+unfoldable pub newLatchCall : List ℕ → List ℕ → Counts → ℕ → ℕ → Seen
+newLatchCall rows latches n next init =
+    callOf (latchAnswer rows latches n (latchEdges (n .rows) (latch (n .rows) next init)) (freeRow rows (n .rows))) rows latches n
+    (left (leafAdded rows (n .rows)) (latchSet latches (n .latches) (latch (n .rows) next init)) (counted n (n .rows + 1) (n .inputs) (n .latches + 1)) (n .rows))
+
+unfoldable pub addLatchCall : List ℕ → List ℕ → Counts → ℕ → ℕ → ℕ → Seen
+addLatchCall rows latches n input next init =
+    callOf (latchAnswer rows latches n (ltb input (n .rows) && latchEdges (n .rows) (latch input next init)) true) rows latches n
+    (left rows (latchSet latches (n .latches) (latch input next init)) (counted n (n .rows) (n .inputs) (n .latches + 1)) input)

@@ -1,0 +1,7 @@
+pub mod Calls
+pub mod Gates
+pub mod Lists
+pub mod Nodes
+pub mod Leaves
+pub mod Meaning
+pub mod Graphs

@@ -1,0 +1,56 @@
+-- The constructors that make an edge.
+-- Assumes nothing.
+use Prim.Native.Nat.{ℕ, _<_}
+use mathlib.Core.List.{List, [], _∷_}
+use mathlib.Core.Bool.{Bool, true, false, _&&_}
+use lib.ListN.{length, getD}
+use lib.Dec.{leb}
+use Rattle.edge.specs.declared.answer.Given.{Given}
+use Rattle.edge.specs.Edges.{idOf, complement}
+use Rattle.rows.specs.Sizes.{maxEntries, rowsLent, rowsFit}
+use Rattle.graph.specs.declared.search.Found.{Found}
+use Rattle.graph.specs.declared.search.Found.the-variants.{At, Nothing}
+use Rattle.graph.specs.declared.Counts.{Counts}
+use Rattle.graph.specs.Search.{firstBad}
+use Rattle.graph.specs.Leaves.{goodEdge}
+use Rattle.build.specs.Calls.{answerOf, counted, left, Seen, callOf}
+use Rattle.build.specs.Gates.{State}
+use Rattle.build.specs.Lists.{listOf, eqOf}
+
+abbrev pub nothingFound : Found → Bool
+nothingFound (At i) = false
+nothingFound Nothing = true
+
+-- every edge of the list is one to a used row
+unfoldable pub allUsed : ℕ → List ℕ → Bool
+allUsed used es = nothingFound (firstBad (goodEdge used es) 0 (length es))
+
+abbrev pub AllUsed : ℕ → List ℕ → Type 0
+AllUsed used es = (i : ℕ) → i < length es → idOf (getD es i 0) < used
+
+-- "used rows 0 or above the lent rows, a limit passed by rows or a list"
+abbrev pub gateSizes : List ℕ → ℕ → List ℕ → Bool
+gateSizes rows used es = rowsFit used rows && leb (length es) maxEntries
+
+-- 1 and 4, before the need is counted
+abbrev pub gateAsked : List ℕ → ℕ → List ℕ → Given
+gateAsked rows used es = answerOf (gateSizes rows used es) (allUsed used es) true
+
+-- of the edges es, s is what is built: "refused whole or done whole"
+unfoldable pub gateCall : List ℕ → Counts → List ℕ → State → Seen
+gateCall rows counts es s =
+    callOf (answerOf (gateSizes rows (counts .rows) es) (allUsed (counts .rows) es) (leb (s .used) (rowsLent rows))) rows [] counts
+    (left (s .rows) [] (counted counts (s .used) (counts .inputs) (counts .latches)) (s .edge))
+
+unfoldable pub listCall : Bool → Bool → List ℕ → Counts → List ℕ → Seen
+listCall trivial or rows counts es = gateCall rows counts es (listOf trivial or rows (counts .rows) es)
+
+-- two edges are the list of the two
+abbrev pub pairCall : Bool → Bool → List ℕ → Counts → ℕ → ℕ → Seen
+pairCall trivial or rows counts a b = listCall trivial or rows counts (a ∷ (b ∷ []))
+
+abbrev pub implyCall : List ℕ → Counts → ℕ → ℕ → Seen
+implyCall rows counts a b = pairCall false true rows counts (complement a) b
+
+unfoldable pub eqCall : List ℕ → Counts → ℕ → ℕ → Seen
+eqCall rows counts a b = gateCall rows counts (a ∷ (b ∷ [])) (eqOf rows (counts .rows) a b)

@@ -1,0 +1,222 @@
+// The first row, leaves, inputs and latches.
+ghost use mathlib.Core.Path.{_≡_};
+ghost use mathlib.Core.List.{[]};
+ghost use Prim.Native.Nat.{_+_, _*_, _≤_};
+ghost use lib.ListN.{length};
+ghost use Rattle.edge.specs.Answers.{told};
+ghost use Rattle.graph.specs.Latches.{latchWords};
+ghost use Rattle.build.specs.Calls.{counted, builtSeen, addedSeen};
+ghost use Rattle.build.specs.Leaves.{noCounts, newCall, freeRow, leafCall, inputAnswer, newInputCall, addInputCall, latchSet, latchAnswer, newLatchCall, addLatchCall};
+use crate::calls::Added;
+use crate::calls::Built;
+use crate::calls::answered;
+use crate::calls::counted;
+use crate::calls::not_added;
+use crate::calls::refused;
+use crate::gates::add_row;
+use edge::Answer;
+use graph::Counts;
+use graph::latch::LATCH_WORDS;
+use graph::latch::Latch;
+use graph::leaves::latch_edges;
+use rows::kinds::FALSE_ROW;
+use rows::kinds::NONE;
+use rows::sizes::MAX_ENTRIES;
+use rows::sizes::MAX_ROWS;
+use rows::sizes::fits;
+use rows::sizes::rows_fit;
+
+fn no_counts() -> Counts
+    ensures { λ r. ⌜ r ≡ noCounts ⌝ }
+{
+    Counts {
+        rows: 0,
+        inputs: 0,
+        latches: 0,
+        constraints: 0,
+        bads: 0,
+        outputs: 0,
+        sets: 0,
+        edges: 0,
+        fairness: 0,
+    }
+}
+
+// A graph of row 0 alone. On a refusal all counts are 0.
+pub fn new(rows: &mut [u32]) -> Built
+    ensures { λ r. ⌜ builtSeen r (now (rows .exit)) ≡ newCall (now (rows .entry)) ⌝ }
+{
+    let counts = no_counts();
+    let lent = rows.len() / 2;
+    let answer = answered(lent <= MAX_ROWS, true, 0 < lent);
+    if !edge::is_done(answer) {
+        return refused(answer, counts);
+    }
+    add_row(rows, 0, FALSE_ROW, 0);
+    Built {
+        answer,
+        counts: counted(counts, 1, 0, 0),
+        edge: 0,
+    }
+}
+
+// What is answered where a leaf was made or listed.
+fn added(
+    answer: Answer,
+    counts: Counts,
+    rows: usize,
+    inputs: usize,
+    latches: usize,
+    id: u32,
+) -> Added
+    ensures { λ r. ⌜ (r .answer ≡ answer) × (r .counts ≡ counted counts rows inputs latches) × (r .id ≡ id) ⌝ }
+{
+    Added {
+        answer,
+        counts: counted(counts, rows, inputs, latches),
+        id,
+    }
+}
+
+// Is there a row after the used ones?
+fn free_row(rows: &[u32], used: usize) -> bool
+    ensures { λ r. ⌜ r ≡ freeRow (now (rows .entry)) used ⌝ }
+{
+    used < rows.len() / 2
+}
+
+// A leaf in no list: an orphan, as yet.
+pub fn new_leaf_node(rows: &mut [u32], counts: Counts) -> Added
+    ensures { λ r. ⌜ addedSeen r (now (rows .exit)) [] ≡ leafCall (now (rows .entry)) counts ⌝ }
+{
+    let used = counts.rows;
+    let answer = answered(rows_fit(used, rows), true, free_row(rows, used));
+    if !edge::is_done(answer) {
+        return not_added(answer, counts);
+    }
+    add_row(rows, used, NONE, 0);
+    added(
+        answer,
+        counts,
+        used + 1,
+        counts.inputs,
+        counts.latches,
+        used as u32,
+    )
+}
+
+// What an input constructor answers: `row` says that a row is free, or that none is needed.
+fn input_answer(rows: &[u32], inputs: &[u32], counts: Counts, good: bool, row: bool) -> Answer
+    ensures { λ r. ⌜ told r ≡ inputAnswer (now (rows .entry)) (now (inputs .entry)) counts good row ⌝ }
+{
+    let n = counts.inputs;
+    answered(
+        rows_fit(counts.rows, rows) & fits(n, inputs.len(), MAX_ENTRIES),
+        good,
+        row & (n < inputs.len()),
+    )
+}
+
+// A new leaf that is an input.
+pub fn new_input(rows: &mut [u32], inputs: &mut [u32], counts: Counts) -> Added
+    ensures { λ r. ⌜ addedSeen r (now (rows .exit)) (now (inputs .exit)) ≡ newInputCall (now (rows .entry)) (now (inputs .entry)) counts ⌝ }
+{
+    let used = counts.rows;
+    let answer = input_answer(rows, inputs, counts, true, free_row(rows, used));
+    if !edge::is_done(answer) {
+        return not_added(answer, counts);
+    }
+    let n = counts.inputs;
+    add_row(rows, used, NONE, 0);
+    inputs[n] = used as u32;
+    added(answer, counts, used + 1, n + 1, counts.latches, used as u32)
+}
+
+// A used row, listed as an input. It is not looked at.
+pub fn add_input(rows: &[u32], inputs: &mut [u32], counts: Counts, input: u32) -> Added
+    ensures { λ r. ⌜ addedSeen r (now (rows .entry)) (now (inputs .exit)) ≡ addInputCall (now (rows .entry)) (now (inputs .entry)) counts input ⌝ }
+{
+    let used = counts.rows;
+    let answer = input_answer(rows, inputs, counts, (input as usize) < used, true);
+    if !edge::is_done(answer) {
+        return not_added(answer, counts);
+    }
+    let n = counts.inputs;
+    inputs[n] = input;
+    added(answer, counts, used, n + 1, counts.latches, input)
+}
+
+// Writes latch i.
+fn write_latch(latches: &mut [u32], i: usize, l: Latch)
+    requires { ⌜ latchWords * (i + 1) ≤ length (now latches) ⌝ }
+    ensures { λ _. ⌜ now (latches .exit) ≡ latchSet (now (latches .entry)) i l ⌝ }
+{
+    let at = LATCH_WORDS * i;
+    latches[at] = l.input;
+    latches[at + 1] = l.next;
+    latches[at + 2] = l.init;
+}
+
+// What a latch constructor answers.
+fn latch_answer(rows: &[u32], latches: &[u32], counts: Counts, good: bool, row: bool) -> Answer
+    ensures { λ r. ⌜ told r ≡ latchAnswer (now (rows .entry)) (now (latches .entry)) counts good row ⌝ }
+{
+    let n = counts.latches;
+    let room = latches.len() / LATCH_WORDS;
+    answered(
+        rows_fit(counts.rows, rows) & fits(n, room, MAX_ENTRIES),
+        good,
+        row & (n < room),
+    )
+}
+
+// A new leaf that is a latch's input. Its own row is not used yet, so next and init go to rows before it.
+pub fn new_latch(
+    rows: &mut [u32],
+    latches: &mut [u32],
+    counts: Counts,
+    next: u32,
+    init: u32,
+) -> Added
+    ensures { λ r. ⌜ addedSeen r (now (rows .exit)) (now (latches .exit)) ≡ newLatchCall (now (rows .entry)) (now (latches .entry)) counts next init ⌝ }
+{
+    let used = counts.rows;
+    let edges = Latch {
+        input: 0,
+        next,
+        init,
+    };
+    let good = latch_edges(used, edges);
+    let answer = latch_answer(rows, latches, counts, good, free_row(rows, used));
+    if !edge::is_done(answer) {
+        return not_added(answer, counts);
+    }
+    let n = counts.latches;
+    let input = used as u32;
+    add_row(rows, used, NONE, 0);
+    write_latch(latches, n, Latch { input, next, init });
+    added(answer, counts, used + 1, counts.inputs, n + 1, input)
+}
+
+// A used row, listed as a latch's input. It is not looked at.
+pub fn add_latch(
+    rows: &[u32],
+    latches: &mut [u32],
+    counts: Counts,
+    input: u32,
+    next: u32,
+    init: u32,
+) -> Added
+    ensures { λ r. ⌜ addedSeen r (now (rows .entry)) (now (latches .exit)) ≡ addLatchCall (now (rows .entry)) (now (latches .entry)) counts input next init ⌝ }
+{
+    let used = counts.rows;
+    let l = Latch { input, next, init };
+    let good = ((input as usize) < used) & latch_edges(used, l);
+    let answer = latch_answer(rows, latches, counts, good, true);
+    if !edge::is_done(answer) {
+        return not_added(answer, counts);
+    }
+    let n = counts.latches;
+    write_latch(latches, n, l);
+    added(answer, counts, used, counts.inputs, n + 1, input)
+}
