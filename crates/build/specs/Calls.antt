@@ -56,9 +56,14 @@ builtSeen r rows = record { given = told (r .answer); left = left rows [] (r .co
 abbrev pub addedSeen : Added → List ℕ → List ℕ → Seen
 addedSeen r rows list = record { given = told (r .answer); left = left rows list (r .counts) (r .id) }
 
--- ---- any two results that a promise allows are equal: of every call that makes an edge, and of every other
-pub built-determined : {L : Type 0} (call : L → Seen) (l : L) (r s : Built) (x y : List ℕ) → builtSeen r x ≡ call l → builtSeen s y ≡ call l
-    → (r .answer ≡ s .answer) × (x ≡ y) × (r .counts ≡ s .counts) × (r .edge ≡ s .edge)
+-- ---- any two results that a promise allows are equal: here for any call, and beside each definition for its own
+abbrev pub SameBuilt : Built → List ℕ → Built → List ℕ → Type 0
+SameBuilt r x s y = (r .answer ≡ s .answer) × (x ≡ y) × (r .counts ≡ s .counts) × (r .edge ≡ s .edge)
+
+abbrev pub SameAdded : Added → List ℕ → List ℕ → Added → List ℕ → List ℕ → Type 0
+SameAdded r x v s y w = (r .answer ≡ s .answer) × (x ≡ y) × (v ≡ w) × (r .counts ≡ s .counts) × (r .id ≡ s .id)
+
+pub built-determined : {L : Type 0} (call : L → Seen) (l : L) (r s : Built) (x y : List ℕ) → builtSeen r x ≡ call l → builtSeen s y ≡ call l → SameBuilt r x s y
 built-determined call l r s x y p q =
     let t = determined call l (builtSeen r x) (builtSeen s y) p q in (
       told-injective (r .answer) (s .answer) (ap (λ (z : Seen). z .given) t),
@@ -67,8 +72,7 @@ built-determined call l r s x y p q =
       ap (λ (z : Seen). z .left .made) t,
     )
 
-pub added-determined : {L : Type 0} (call : L → Seen) (l : L) (r s : Added) (x y v w : List ℕ) → addedSeen r x v ≡ call l → addedSeen s y w ≡ call l
-    → (r .answer ≡ s .answer) × (x ≡ y) × (v ≡ w) × (r .counts ≡ s .counts) × (r .id ≡ s .id)
+pub added-determined : {L : Type 0} (call : L → Seen) (l : L) (r s : Added) (x y v w : List ℕ) → addedSeen r x v ≡ call l → addedSeen s y w ≡ call l → SameAdded r x v s y w
 added-determined call l r s x y v w p q =
     let t = determined call l (addedSeen r x v) (addedSeen s y w) p q in (
       told-injective (r .answer) (s .answer) (ap (λ (z : Seen). z .given) t),

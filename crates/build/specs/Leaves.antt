@@ -1,6 +1,7 @@
 -- The first row, leaves, inputs and latches.
 -- Assumes nothing.
 use Prim.Native.Nat.{ℕ, _+_, _*_}
+use mathlib.Core.Path.{_≡_}
 use mathlib.Core.List.{List, []}
 use mathlib.Core.Bool.{Bool, true, _&&_}
 use lib.ListN.{length, set}
@@ -12,7 +13,9 @@ use Rattle.graph.specs.declared.Counts.{Counts}
 use Rattle.graph.specs.declared.latch.Latch.{Latch}
 use Rattle.graph.specs.Latches.{latchWords, latchesLent}
 use Rattle.graph.specs.Leaves.{latchEdges}
-use Rattle.build.specs.Calls.{answerOf, counted, left, Seen, callOf}
+use Rattle.build.specs.declared.calls.Built.{Built}
+use Rattle.build.specs.declared.calls.Added.{Added}
+use Rattle.build.specs.Calls.{answerOf, counted, left, Seen, callOf, builtSeen, addedSeen, SameBuilt, SameAdded, built-determined, added-determined}
 use Rattle.build.specs.Gates.{rowAdded}
 
 -- ---- the first row: "Row 0 is (4294967294, 0)"
@@ -83,3 +86,27 @@ unfoldable pub addLatchCall : List ℕ → List ℕ → Counts → ℕ → ℕ �
 addLatchCall rows latches n input next init =
     callOf (latchAnswer rows latches n (ltb input (n .rows) && latchEdges (n .rows) (latch input next init)) true) rows latches n
     (left rows (latchSet latches (n .latches) (latch input next init)) (counted n (n .rows) (n .inputs) (n .latches + 1)) input)
+
+-- ---- any two results that a promise allows are equal, call by call
+pub new-determined : (rows : List ℕ) (r s : Built) (x y : List ℕ) → builtSeen r x ≡ newCall rows → builtSeen s y ≡ newCall rows → SameBuilt r x s y
+new-determined = built-determined newCall
+
+pub leaf-determined : (rows : List ℕ) (n : Counts) (r s : Added) (x y v w : List ℕ) → addedSeen r x v ≡ leafCall rows n → addedSeen s y w ≡ leafCall rows n
+    → SameAdded r x v s y w
+leaf-determined rows = added-determined (leafCall rows)
+
+pub new-input-determined : (rows inputs : List ℕ) (n : Counts) (r s : Added) (x y v w : List ℕ) → addedSeen r x v ≡ newInputCall rows inputs n
+    → addedSeen s y w ≡ newInputCall rows inputs n → SameAdded r x v s y w
+new-input-determined rows inputs = added-determined (newInputCall rows inputs)
+
+pub add-input-determined : (rows inputs : List ℕ) (n : Counts) (id : ℕ) (r s : Added) (x y v w : List ℕ) → addedSeen r x v ≡ addInputCall rows inputs n id
+    → addedSeen s y w ≡ addInputCall rows inputs n id → SameAdded r x v s y w
+add-input-determined rows inputs n = added-determined (addInputCall rows inputs n)
+
+pub new-latch-determined : (rows latches : List ℕ) (n : Counts) (next init : ℕ) (r s : Added) (x y v w : List ℕ) → addedSeen r x v ≡ newLatchCall rows latches n next init
+    → addedSeen s y w ≡ newLatchCall rows latches n next init → SameAdded r x v s y w
+new-latch-determined rows latches n next = added-determined (newLatchCall rows latches n next)
+
+pub add-latch-determined : (rows latches : List ℕ) (n : Counts) (id next init : ℕ) (r s : Added) (x y v w : List ℕ) → addedSeen r x v ≡ addLatchCall rows latches n id next init
+    → addedSeen s y w ≡ addLatchCall rows latches n id next init → SameAdded r x v s y w
+add-latch-determined rows latches n id next = added-determined (addLatchCall rows latches n id next)

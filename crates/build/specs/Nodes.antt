@@ -13,7 +13,9 @@ use Rattle.graph.specs.declared.search.Found.the-variants.{At, Nothing}
 use Rattle.graph.specs.declared.Counts.{Counts}
 use Rattle.graph.specs.Search.{firstBad}
 use Rattle.graph.specs.Leaves.{goodEdge}
-use Rattle.build.specs.Calls.{answerOf, counted, left, Seen, callOf}
+use mathlib.Core.Path.{_≡_}
+use Rattle.build.specs.declared.calls.Built.{Built}
+use Rattle.build.specs.Calls.{answerOf, counted, left, Seen, callOf, builtSeen, SameBuilt, built-determined}
 use Rattle.build.specs.Gates.{State}
 use Rattle.build.specs.Lists.{listOf, eqOf}
 
@@ -54,3 +56,12 @@ implyCall rows counts a b = pairCall false true rows counts (complement a) b
 
 unfoldable pub eqCall : List ℕ → Counts → ℕ → ℕ → Seen
 eqCall rows counts a b = gateCall rows counts (a ∷ (b ∷ [])) (eqOf rows (counts .rows) a b)
+
+-- ---- any two results that a promise allows are equal; two edges are a list, and so is an implication
+pub list-determined : (trivial or : Bool) (rows : List ℕ) (n : Counts) (es : List ℕ) (r s : Built) (x y : List ℕ)
+    → builtSeen r x ≡ listCall trivial or rows n es → builtSeen s y ≡ listCall trivial or rows n es → SameBuilt r x s y
+list-determined trivial or rows n = built-determined (listCall trivial or rows n)
+
+pub eq-determined : (rows : List ℕ) (n : Counts) (a b : ℕ) (r s : Built) (x y : List ℕ) → builtSeen r x ≡ eqCall rows n a b → builtSeen s y ≡ eqCall rows n a b
+    → SameBuilt r x s y
+eq-determined rows n a = built-determined (eqCall rows n a)
