@@ -3,18 +3,26 @@
 
 mod build;
 pub mod check;
+pub mod cones;
 mod edges;
 mod gates;
 pub mod making;
 mod rows;
+pub mod ternary;
 
 use crate::case::{Case, Outcome};
 use crate::graph::{SLICES, WIDTH};
 use crate::rng::Rng;
 
-/// Slots of FORMAT.md: the list or map, and the marks.
+/// Slots of FORMAT.md: the list or map, the marks and the second slice of them (a stack), the flags
+/// that are written, and the bytes.
 pub const LIST: usize = 18;
 pub const MARKS: usize = 19;
+pub const STACK: usize = 20;
+pub const FLAGS: usize = 21;
+pub const INPUT_BYTES: usize = 22;
+pub const STATE: usize = 23;
+pub const VALUES: usize = 24;
 
 pub struct Call {
     pub number: u64,
@@ -23,8 +31,9 @@ pub struct Call {
     pub expected: fn(&Case) -> Outcome,
     /// What shrinking has to know of the case.
     pub counts: &'static [Count],
-    /// The scalars that are row numbers.
+    /// The scalars that are row numbers, and the slots of no graph that hold row numbers.
     pub ids: &'static [usize],
+    pub id_slots: &'static [usize],
     /// The scalars that are edges, and the slots of no graph that hold edges.
     pub edges: &'static [usize],
     pub edge_slots: &'static [usize],
@@ -62,6 +71,8 @@ pub fn all() -> impl Iterator<Item = &'static Call> {
         .chain(check::CALLS)
         .chain(build::CALLS)
         .chain(gates::CALLS)
+        .chain(cones::CALLS)
+        .chain(ternary::CALLS)
 }
 
 /// The calls of a list of numbers such as `1,2,51`, in the order of FORMAT.md; `all` is all.
@@ -88,6 +99,22 @@ fn given_otherwise(rng: &mut Rng, mut case: Case) -> Case {
         rng.shuffle(&mut case.slots);
     }
     case
+}
+
+/// Makes a slice shorter than the used rows.
+fn shorten(rng: &mut Rng, case: &mut Case, slot: usize, used: usize) {
+    let length = rng.pick(&[used.saturating_sub(1), used / 2, 0]);
+    for slot in case.slots.iter_mut().filter(|s| s.number == slot) {
+        slot.words.truncate(length);
+    }
+}
+
+/// "Work marks are zero at exit over the rows used at entry, except after 1, when they are
+/// untouched."
+fn clear(outcome: &mut Outcome, work: &[usize], used: usize) {
+    for &slot in work {
+        outcome.write(slot, &vec![0; used]);
+    }
 }
 
 /// The call of a case.

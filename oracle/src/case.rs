@@ -14,6 +14,14 @@ fn room(slot: usize) -> usize {
     }
 }
 
+/// "Bytes are given as numbers 0 to 255."
+fn largest(slot: usize) -> u32 {
+    match slot {
+        22..=24 => 255,
+        _ => u32::MAX,
+    }
+}
+
 /// A lent slice.
 #[derive(Debug, Clone, PartialEq, Eq)]
 pub struct Slot {
@@ -72,7 +80,7 @@ impl Case {
     pub fn fits(&self) -> bool {
         self.scalars.len() <= SCALARS
             && self.words() <= WORDS_IN_ALL
-            && self.slots.iter().all(|s| s.words.len() <= room(s.number))
+            && self.slots.iter().all(Slot::fits)
     }
 
     /// The call, its scalars and the number of slots.
@@ -94,6 +102,11 @@ impl Case {
 }
 
 impl Slot {
+    fn fits(&self) -> bool {
+        let largest = largest(self.number);
+        self.words.len() <= room(self.number) && self.words.iter().all(|&word| word <= largest)
+    }
+
     pub fn write(&self, text: &mut String) {
         write_numbers(text, [self.number as u64, self.words.len() as u64]);
         for word in &self.words {
@@ -173,6 +186,15 @@ impl Outcome {
             answer,
             results: results.to_vec(),
             slots: case.slots.clone(),
+        }
+    }
+
+    /// Writes the first words of a lent slice: "Words beyond what a call says it writes stay as
+    /// they were."
+    pub fn write(&mut self, number: usize, words: &[u32]) {
+        match self.slots.iter_mut().find(|slot| slot.number == number) {
+            Some(slot) => slot.words[..words.len()].copy_from_slice(words),
+            None => assert!(words.is_empty(), "slot {number} is not lent"),
         }
     }
 

@@ -34,15 +34,19 @@ const DAMAGES: [Damage; 18] = [
 
 pub fn marked(rng: &mut Rng, size: Size) -> Marked {
     let mut marked = wellformed::marked(rng, size);
+    damage(rng, &mut marked);
+    marked
+}
+
+pub fn damage(rng: &mut Rng, marked: &mut Marked) {
     if rng.one_in(200) {
-        long_list(rng, &mut marked);
-        return marked;
+        long_list(rng, marked);
+        return;
     }
     let damages = rng.pick(&[1, 1, 1, 1, 2, 2, 3, 5]);
     for _ in 0..damages {
-        rng.pick(&DAMAGES)(rng, &mut marked);
+        rng.pick(&DAMAGES)(rng, marked);
     }
-    marked
 }
 
 /// A count or a length that is likely to be wrong.

@@ -11,6 +11,7 @@ mod program;
 mod refuse;
 mod rng;
 mod sample;
+mod shapes;
 mod shrink;
 mod tables;
 mod wellformed;

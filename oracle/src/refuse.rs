@@ -14,7 +14,13 @@ const MOST_ENTRIES: usize = 65_536;
 
 /// The refusals of a call that is lent one graph and one slice of marks, in their order.
 pub fn refusal(graph: &Lent, marks: &[u32]) -> Option<Answer> {
-    if bad_sizes(graph) || short(marks, graph.counts[ROWS]) {
+    refusal_with(graph, &[marks])
+}
+
+/// The same with several buffers of one word or byte a row.
+pub fn refusal_with(graph: &Lent, buffers: &[&[u32]]) -> Option<Answer> {
+    let used = graph.counts[ROWS];
+    if bad_sizes(graph) || buffers.iter().any(|buffer| short(buffer, used)) {
         return Some(Answer::BAD_SIZES);
     }
     bad_contents(graph)

@@ -1,6 +1,8 @@
 //! The stored sample: a small script with every call, and what is expected of it.
 
-use crate::calls::{self, Call, LIST, making};
+use crate::calls::cones::{self, COI, LOGIC};
+use crate::calls::ternary::{self, Lending, RUN, STEP, VALUE};
+use crate::calls::{self, Call, LIST, VALUES, check, making};
 use crate::case::{Answer, Case};
 use crate::compare::random_case;
 use crate::graph::{EDGES, ENDS, FAIRNESS, INPUTS, LATCHES, LEAF, Lent, NONE, OUTPUTS, ROWS};
@@ -9,8 +11,10 @@ use std::fs;
 use std::io;
 use std::path::Path;
 
-/// Random cases of each kind: of a call, with a number and, for 3, a list.
+/// Random cases of each kind: of a call, with a number and, for 3 of the check, a list.
 const OF_A_KIND: usize = 4;
+/// Of a refusal that the check has too, in the calls on a whole graph after it.
+const AS_THE_CHECK: usize = 2;
 /// Where the random cases are looked for, and how many words they may have.
 const SEED: u64 = 2;
 const ROUNDS: u64 = 2_000;
@@ -115,9 +119,9 @@ fn random_cases(call: &Call) -> Vec<Case> {
     let mut cases = Vec::new();
     for round in 0..ROUNDS {
         let case = random_case(call, SEED, round);
-        let kind = kind((call.expected)(&case).answer);
+        let kind = kind(call, (call.expected)(&case).answer);
         let found = found.entry(kind).or_default();
-        if *found < OF_A_KIND && case.words() <= MOST_WORDS {
+        if *found < of_a_kind(call, kind.0) && case.words() <= MOST_WORDS {
             *found += 1;
             cases.push(case);
         }
@@ -125,10 +129,20 @@ fn random_cases(call: &Call) -> Vec<Case> {
     cases
 }
 
-/// The number, the list of a bad entry, and whether it is a justice edge.
-fn kind(answer: Answer) -> (u64, u64, bool) {
-    let list = if answer.number == 3 { answer.place } else { 0 };
-    (answer.number, list, answer.second > 0)
+fn of_a_kind(call: &Call, number: u64) -> usize {
+    match (call.number, number) {
+        (LOGIC | COI | RUN | STEP, 1..=3) => AS_THE_CHECK,
+        _ => OF_A_KIND,
+    }
+}
+
+/// The number; of the check, which stands for every other call on a whole graph, also the list of
+/// a bad entry, and whether it is a justice edge.
+fn kind(call: &Call, answer: Answer) -> (u64, u64, bool) {
+    match (call.number, answer.number) {
+        (check::NUMBER, 3) => (3, answer.place, answer.second > 0),
+        (_, number) => (number, 0, false),
+    }
 }
 
 /// What document 01 says in words or as a marked case, where there is a call for it.
@@ -141,6 +155,9 @@ fn marked_cases() -> Vec<(&'static str, Case)> {
     cases.extend(latch_cases());
     cases.extend(gate_cases());
     cases.extend(list_cases());
+    cases.extend(cone_cases());
+    cases.extend(ternary_cases());
+    cases.extend(value_cases());
     cases
 }
 
@@ -171,11 +188,11 @@ fn row_cases() -> impl Iterator<Item = (&'static str, Case)> {
 
 /// Marks of garbage, one more than there are rows.
 fn checked(graph: &Lent) -> Case {
-    calls::check::case(graph, vec![7; graph.room(ROWS) + 1])
+    check::case(graph, vec![7; graph.room(ROWS) + 1])
 }
 
 fn well_formed_cases() -> Vec<(&'static str, Case)> {
-    let m7 = graph(&[LEAF, [2, 3]], &[1], &[], &[4]);
+    let m7 = table_m7();
     let m12 = graph(&[LEAF, LEAF], &[2], &[[1, 4, 5]], &[]);
     let m13 = graph(&[LEAF], &[], &[[1, 3, NONE]], &[]);
     vec![
@@ -196,7 +213,7 @@ fn refused_cases() -> Vec<(&'static str, Case)> {
         change(&mut graph);
         checked(&graph)
     };
-    let short = calls::check::case(&x, vec![7; 5]);
+    let short = check::case(&x, vec![7; 5]);
     vec![
         ("no-row-used", changed(|x| x.counts[ROWS] = 0)),
         ("odd-last-word", changed(|x| x.words[ROWS].truncate(11))),
@@ -332,6 +349,123 @@ fn list_cases() -> Vec<(&'static str, Case)> {
     cases
 }
 
+/// "A slot that is not given is lent empty."
+fn shortly(mut case: Case) -> Case {
+    case.slots.retain(|slot| !slot.words.is_empty());
+    case
+}
+
+/// Roots on table X, and on latches that are crossed or not.
+fn cone_cases() -> Vec<(&'static str, Case)> {
+    let of = |call, graph: &Lent, roots: &[u32]| {
+        let garbage = vec![7; graph.room(ROWS) + 1];
+        shortly(cones::case(call, graph, roots, &garbage, &garbage))
+    };
+    let (x, latches) = (table_x(), table_of_latches());
+    let mut own_row = x.clone();
+    own_row.words[ROWS][10] = 10;
+    let mut cases = vec![
+        ("not-X", of(LOGIC, &x, &[11])),
+        ("gate-and-constant", of(LOGIC, &x, &[7, 1])),
+        ("latch-not-crossed", of(LOGIC, &latches, &[2])),
+        ("chain-of-latches", of(COI, &latches, &[1])),
+        ("init-not-followed", of(COI, &latches, &[3])),
+        ("last-row", of(COI, &x, &[5])),
+    ];
+    for (call, unused) in [(LOGIC, 12), (COI, 6)] {
+        let garbage = [7; 6];
+        cases.push(("no-root", of(call, &x, &[])));
+        cases.push(("one-root-twice", of(call, &x, &[3, 3])));
+        cases.push(("last-and-not-used", of(call, &x, &[unused - 1, unused])));
+        cases.push(("row-before-root", of(call, &own_row, &[unused])));
+        let short = cones::case(call, &x, &[unused], &garbage[..5], &garbage);
+        cases.push(("flags-one-short", shortly(short)));
+        let short = cones::case(call, &x, &[], &garbage, &garbage[..5]);
+        cases.push(("marks-one-short", shortly(short)));
+    }
+    cases
+}
+
+/// "M7 a gate (2,3) over an unknown leaf is unknown, though `new_and_node` folds it." The latches
+/// are stepped frame by frame.
+fn ternary_cases() -> Vec<(&'static str, Case)> {
+    let of = |call, graph: &Lent, inputs: &[u32], state: &[u32]| {
+        let lending = Lending {
+            inputs: inputs.to_vec(),
+            state: state.to_vec(),
+            values: vec![77; graph.room(ROWS) + 1],
+            marks: vec![7; graph.room(ROWS) + 1],
+        };
+        shortly(ternary::case(call, graph, lending))
+    };
+    let (m7, x, latches) = (table_m7(), table_x(), table_of_latches());
+    let mut orphans = x.clone();
+    orphans.counts[INPUTS] = 0;
+    let mut own_row = x.clone();
+    own_row.words[ROWS][10] = 10;
+    let mut cases = vec![
+        ("M7", of(RUN, &m7, &[2], &[])),
+        ("M7", of(STEP, &m7, &[2], &[])),
+        ("known", of(RUN, &m7, &[1], &[])),
+        ("orphans", of(RUN, &orphans, &[], &[])),
+        ("frame-1", of(STEP, &latches, &[0], &[2, 2, 2])),
+        ("frame-2", of(STEP, &latches, &[1], &[2, 2, 0])),
+        ("frame-3", of(STEP, &latches, &[2], &[1, 0, 1])),
+        ("frame-4", of(STEP, &latches, &[0], &[2, 1, 2])),
+    ];
+    // every pair of codes
+    for pair in 0..9 {
+        cases.push(("X", of(RUN, &x, &[pair / 3, pair % 3], &[])));
+    }
+    for call in [RUN, STEP] {
+        cases.push(("input-missing", of(call, &latches, &[], &[0, 0, 0])));
+        cases.push(("state-too-long", of(call, &latches, &[0], &[0, 0, 0, 0])));
+        cases.push(("input-of-3", of(call, &latches, &[3], &[0, 0, 0])));
+        cases.push(("state-of-255", of(call, &latches, &[0], &[0, 0, 255])));
+        cases.push(("row-before-bytes", of(call, &own_row, &[3], &[])));
+        let mut short = of(call, &x, &[3], &[]);
+        for slot in short.slots.iter_mut().filter(|s| s.number == VALUES) {
+            slot.words.truncate(5);
+        }
+        cases.push(("values-one-short", short));
+    }
+    cases
+}
+
+/// Of the values 0, 2, 2 of M7, and of bytes that are none.
+fn value_cases() -> Vec<(&'static str, Case)> {
+    let of =
+        |used, values: &[u32], edge| Case::new(VALUE, &[used, edge]).lend(VALUES, values.to_vec());
+    vec![
+        ("M7", of(3, &[0, 2, 2], 4)),
+        ("M7", of(3, &[0, 2, 2], 5)),
+        ("false", of(3, &[0, 2, 2], 0)),
+        ("true", of(3, &[0, 2, 2], 1)),
+        ("row-0-as-it-stands", of(1, &[1], 0)),
+        ("not-used", of(2, &[0, 2, 2], 4)),
+        ("byte-of-3", of(2, &[3, 3], 2)),
+        ("other-byte-of-3", of(2, &[3, 1], 2)),
+        ("no-row-used", of(0, &[0], 0)),
+        ("values-one-short", of(3, &[0, 2], 9)),
+    ]
+}
+
+/// "rows 0, leaf 1, gate (2,3)"; the leaf is an input, the gate an output.
+fn table_m7() -> Lent {
+    graph(&[LEAF, [2, 3]], &[1], &[], &[4])
+}
+
+/// Latches 1, 2, 3 of which each has the one after it as its next, the last the input 4; 1 through
+/// the gate 5 = (5,9). The init of 3 is the gate 6, which nothing else has.
+fn table_of_latches() -> Lent {
+    graph(
+        &[LEAF, LEAF, LEAF, LEAF, [5, 9], [3, 6]],
+        &[4],
+        &[[1, 11, NONE], [2, 6, 1], [3, 8, 12]],
+        &[2],
+    )
+}
+
 /// "Table X: rows 0, leaf 1, leaf 2, 3 = (2,4), 4 = (3,5), 5 = (7,9); inputs 1, 2; output 10."
 fn table_x() -> Lent {
     graph(&[LEAF, LEAF, [2, 4], [3, 5], [7, 9]], &[1, 2], &[], &[10])
@@ -361,6 +495,7 @@ fn graph(rows: &[[u32; 2]], inputs: &[u32], latches: &[[u32; 3]], outputs: &[u32
 #[cfg(test)]
 mod tests {
     use super::*;
+    use crate::calls::STATE;
 
     #[test]
     fn m1_to_m6_answer_as_document_01_says() {
@@ -384,11 +519,51 @@ mod tests {
         assert_eq!(eq.slots[0].words, table_x().words[ROWS]);
     }
 
+    /// "a gate (2,3) over an unknown leaf is unknown"
+    #[test]
+    fn m7_answers_as_document_01_says() {
+        let cases = ternary_cases().into_iter().chain(value_cases());
+        let outcomes: Vec<_> = cases
+            .filter(|(title, _)| *title == "M7")
+            .map(|(_, case)| (case.call, (calls::of(&case).expected)(&case)))
+            .collect();
+        let calls: Vec<u64> = outcomes.iter().map(|(call, _)| *call).collect();
+        assert_eq!(calls, [RUN, STEP, VALUE, VALUE]);
+        for (call, outcome) in outcomes {
+            assert_eq!(outcome.answer, Answer::DONE);
+            let mut slots = outcome.slots.iter();
+            let values = slots.find(|slot| slot.number == VALUES);
+            let values = &values.expect("values are lent").words;
+            assert_eq!(values[..3], [0, 2, 2]);
+            if call == VALUE {
+                assert_eq!(outcome.results, [2]);
+            }
+        }
+    }
+
+    /// Each frame begins with the state that the one before it leaves.
+    #[test]
+    fn the_frames_of_the_sample_follow_one_another() {
+        let cases = ternary_cases().into_iter();
+        let frames = cases.filter(|(title, _)| title.starts_with("frame"));
+        let mut left: Option<Vec<u32>> = None;
+        for (title, case) in frames {
+            if let Some(left) = left {
+                assert_eq!(case.slot(STATE), left, "{title}");
+            }
+            let outcome = (calls::of(&case).expected)(&case);
+            let mut slots = outcome.slots.iter();
+            let state = slots.find(|slot| slot.number == STATE);
+            left = Some(state.expect("a state is lent").words.clone());
+        }
+        assert_eq!(left, Some(vec![1, 2, 0]));
+    }
+
     #[test]
     fn the_sample_is_small_and_has_every_call() {
         let calls: Vec<&Call> = calls::all().collect();
         let sample = sample(&calls);
-        assert!(sample.stdin.len() + sample.stdout.len() < 160_000);
+        assert!(sample.stdin.len() + sample.stdout.len() < 220_000);
         for call in calls {
             assert!(sample.stdin.contains(&format!("{} ", call.name)));
         }

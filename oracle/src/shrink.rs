@@ -1,9 +1,12 @@
 //! Makes a case that fails smaller while it still fails.
 
-use crate::calls::{self, Call};
+use crate::calls::{self, Call, INPUT_BYTES, STATE, VALUES};
 use crate::case::Case;
 use crate::graph::{EDGES, ENDS, INPUTS, LATCHES, ROW_0, ROWS, SLICES};
 use std::ops::Range;
+
+/// The bytes of an input and of a latch go with it.
+const ALONG: [(usize, usize); 2] = [(INPUTS, INPUT_BYTES), (LATCHES, STATE)];
 
 /// The smallest case found in a bounded number of tries.
 pub fn shrink(case: &Case, tries: usize, fails: &mut dyn FnMut(&Case) -> bool) -> Case {
@@ -76,7 +79,7 @@ impl Shrinker<'_> {
                 let mut case = plain.clone();
                 lower_count(&mut case.scalars[count.scalar], &range);
                 renumber(&mut case, slot, &range, self.call);
-                case
+                without_bytes(case, slot, &range)
             });
             let taken = renumbered.is_some_and(|case| self.attempt(case));
             if !taken {
@@ -124,6 +127,16 @@ fn without_words(case: &Case, at: usize, words: Range<usize>) -> Case {
     case
 }
 
+/// Without the bytes of the dropped inputs or latches.
+fn without_bytes(case: Case, slot: usize, dropped: &Range<usize>) -> Case {
+    let bytes = ALONG.iter().find(|(list, _)| *list == slot);
+    let at = bytes.and_then(|(_, bytes)| case.slots.iter().position(|s| s.number == *bytes));
+    match at {
+        Some(at) => without_words(&case, at, dropped.clone()),
+        None => case,
+    }
+}
+
 /// The counted ones of the dropped entries are not counted any more.
 fn lower_count(count: &mut u64, dropped: &Range<usize>) {
     let counted = (*count).clamp(dropped.start as u64, dropped.end as u64);
@@ -131,8 +144,11 @@ fn lower_count(count: &mut u64, dropped: &Range<usize>) {
 }
 
 /// Without some rows the later ids are smaller, and the edges to a dropped row become constants;
-/// without some justice edges the ends are smaller.
+/// values that are counted stand for the rows. Without some justice edges the ends are smaller.
 fn renumber(case: &mut Case, slot: usize, dropped: &Range<usize>, call: &Call) {
+    if slot == VALUES {
+        return renumber_arguments(case, dropped, call);
+    }
     let graph = slot - slot % SLICES;
     let slices = case.slots.iter_mut().filter_map(|slot| {
         let slice = slot.number.checked_sub(graph)?;
@@ -162,10 +178,16 @@ fn renumber_arguments(case: &mut Case, dropped: &Range<usize>, call: &Call) {
     for &edge in call.edges {
         case.scalars[edge] = lower_edge(case.word(edge), dropped).into();
     }
-    let edge_slots = case.slots.iter_mut();
-    for slot in edge_slots.filter(|slot| call.edge_slots.contains(&slot.number)) {
-        for edge in &mut slot.words {
-            *edge = lower_edge(*edge, dropped);
+    for slot in &mut case.slots {
+        if call.edge_slots.contains(&slot.number) {
+            for edge in &mut slot.words {
+                *edge = lower_edge(*edge, dropped);
+            }
+        }
+        if call.id_slots.contains(&slot.number) {
+            for id in &mut slot.words {
+                *id = lower_id(*id as usize, dropped) as u32;
+            }
         }
     }
 }
@@ -200,7 +222,8 @@ fn renumber_ids(slice: usize, words: &mut [u32], dropped: &Range<usize>) {
 #[cfg(test)]
 mod tests {
     use super::*;
-    use crate::calls::{LIST, check, making};
+    use crate::calls::ternary::{self, Lending};
+    use crate::calls::{FLAGS, LIST, check, cones, making};
     use crate::graph::{LEAF, Lent, NONE};
 
     fn expected(case: &Case) -> crate::case::Answer {
@@ -242,5 +265,80 @@ mod tests {
         let smallest = shrink(&case, 2_000, &mut fails);
         assert!(fails(&smallest));
         assert!(smallest.words() <= 8, "{smallest:?}");
+    }
+
+    /// Latches 1 to 12, each with the row after it as its next, and the input 13.
+    #[test]
+    fn ids_shrink_with_the_rows_below_them() {
+        let mut graph = Lent::new();
+        graph.words[ROWS].extend(LEAF.repeat(13));
+        graph.words[INPUTS] = vec![13];
+        for id in 1..13 {
+            graph.words[LATCHES].extend([id, 2 * id + 2, NONE]);
+        }
+        graph.count_all();
+        let case = cones::case(cones::COI, &graph, &[9, 3, 0], &[7; 20], &[7; 20]);
+        // a latch is crossed
+        let mut fails = |case: &Case| {
+            let outcome = (calls::of(case).expected)(case);
+            let mut flags = outcome.slots.iter().filter(|slot| slot.number == FLAGS);
+            let flagged = |words: &[u32]| words.iter().filter(|&&word| word == 1).count();
+            outcome.answer.number == 0 && flags.any(|slot| flagged(&slot.words) >= 3)
+        };
+        assert!(fails(&case));
+        let smallest = shrink(&case, 2_000, &mut fails);
+        assert!(fails(&smallest));
+        // three rows, their flags, marks and stack, a latch and a root or two
+        assert!(smallest.words() <= 6 + 9 + 3 + 2, "{smallest:?}");
+    }
+
+    /// The byte of an input or of a latch goes with it, so that the case is not refused.
+    #[test]
+    fn bytes_shrink_with_their_lists() {
+        let mut graph = Lent::new();
+        graph.words[ROWS].extend(LEAF.repeat(20));
+        graph.words[ROWS].extend([12, 30]);
+        graph.words[INPUTS] = (1..=10).collect();
+        for id in 11..=20 {
+            graph.words[LATCHES].extend([id, 42, NONE]);
+        }
+        graph.count_all();
+        let lending = Lending {
+            inputs: vec![0, 1, 2, 0, 1, 2, 0, 1, 2, 0],
+            state: vec![1, 1, 0, 0, 2, 2, 1, 1, 0, 0],
+            values: vec![77; 25],
+            marks: vec![7; 25],
+        };
+        let case = ternary::case(ternary::STEP, &graph, lending);
+        // a latch becomes unknown
+        let mut fails = |case: &Case| {
+            let outcome = (calls::of(case).expected)(case);
+            let mut state = outcome.slots.iter().filter(|slot| slot.number == STATE);
+            let is_known = |words: &[u32]| !words.contains(&2);
+            outcome.answer.number == 0
+                && is_known(case.slot(STATE))
+                && state.any(|slot| !is_known(&slot.words))
+        };
+        let mut known = case.clone();
+        for slot in known.slots.iter_mut().filter(|slot| slot.number == STATE) {
+            slot.words = vec![1; 10];
+        }
+        assert!(!fails(&case) && fails(&known));
+        let smallest = shrink(&known, 2_000, &mut fails);
+        assert!(fails(&smallest));
+        // a gate over orphans is enough: its rows, their values and marks, a latch and its byte
+        assert!(smallest.words() <= 10 + 10 + 3 + 1, "{smallest:?}");
+    }
+
+    #[test]
+    fn an_edge_shrinks_with_the_values_below_it() {
+        let mut values = vec![1; 40];
+        values[30] = 2;
+        let case = Case::new(ternary::VALUE, &[35, 61]).lend(VALUES, values);
+        let mut fails = |case: &Case| (calls::of(case).expected)(case).results == [2];
+        assert!(fails(&case));
+        let smallest = shrink(&case, 2_000, &mut fails);
+        assert!(fails(&smallest));
+        assert!(smallest.words() <= 2, "{smallest:?}");
     }
 }

@@ -48,14 +48,18 @@ pub fn garbage(rng: &mut Rng) -> u32 {
 /// A graph with marks that are long enough.
 pub fn marked(rng: &mut Rng, size: Size) -> Marked {
     let graph = graph(rng, size);
-    let marks = marks(rng, graph.counted(ROWS));
+    let marks = buffer(rng, graph.counted(ROWS));
     (graph, marks)
 }
 
-/// Marks that cover the used rows: garbage, and often longer than needed.
-fn marks(rng: &mut Rng, used: usize) -> Vec<u32> {
-    let length = used + rng.pick(&[0, 0, 1, 2, 7]);
+/// Marks or flags that cover the used rows: garbage, and often longer than needed.
+pub fn buffer(rng: &mut Rng, used: usize) -> Vec<u32> {
+    let length = buffer_length(rng, used);
     (0..length).map(|_| garbage(rng)).collect()
+}
+
+pub fn buffer_length(rng: &mut Rng, used: usize) -> usize {
+    used + rng.pick(&[0, 0, 1, 2, 7])
 }
 
 pub fn graph(rng: &mut Rng, size: Size) -> Lent {
@@ -178,7 +182,7 @@ fn push_latch(rng: &mut Rng, graph: &mut Lent, input: u32) {
 }
 
 /// A justice set, empty at times.
-fn push_set(rng: &mut Rng, graph: &mut Lent) {
+pub fn push_set(rng: &mut Rng, graph: &mut Lent) {
     let rows = graph.room(ROWS);
     for _ in 0..rng.below(4) {
         let edge = edge(rng, rows);
@@ -234,7 +238,7 @@ fn full_edges(rng: &mut Rng) -> Lent {
 
 /// Lends more than the counts say: garbage entries, and a last entry that is not whole. A list
 /// at the limit gets no entry more.
-fn spare_room(rng: &mut Rng, graph: &mut Lent) {
+pub fn spare_room(rng: &mut Rng, graph: &mut Lent) {
     for (slice, width) in WIDTH.into_iter().enumerate() {
         let (entries, part) = match (graph.room(slice) < 60_000, slice) {
             (false, LATCHES) => (0, rng.below(3)),

@@ -20,6 +20,7 @@ pub const CALLS: &[Call] = &[
         expected: new,
         counts: &[],
         ids: &[],
+        id_slots: &[],
         edges: &[],
         edge_slots: &[],
     },
@@ -55,6 +56,7 @@ const fn call(
         expected: |case| making(case).outcome(case),
         counts: &COUNTS,
         ids,
+        id_slots: &[],
         edges,
         edge_slots: &[],
     }

@@ -1,14 +1,14 @@
 //! Call 30: the check of a whole graph.
 
-use super::{Call, Count, MARKS, given_otherwise, graph_counts};
-use crate::case::{Answer, Case, Outcome, Slot};
+use super::{Call, Count, MARKS, clear, given_otherwise, graph_counts};
+use crate::case::{Answer, Case, Outcome};
 use crate::damaged;
 use crate::graph::{Lent, ROWS, SLICES, of_aig, to_aig};
 use crate::refuse::refusal;
 use crate::rng::Rng;
 use crate::wellformed::{self, Size};
 
-const NUMBER: u64 = 30;
+pub const NUMBER: u64 = 30;
 
 pub const CALLS: &[Call] = &[Call {
     number: NUMBER,
@@ -17,6 +17,7 @@ pub const CALLS: &[Call] = &[Call {
     expected,
     counts: &COUNTS,
     ids: &[],
+    id_slots: &[],
     edges: &[],
     edge_slots: &[],
 }];
@@ -49,17 +50,9 @@ fn expected(case: &Case) -> Outcome {
     }
     let mut outcome = Outcome::reading(case, answer, &[]);
     if answer != Answer::BAD_SIZES {
-        clear_marks(&mut outcome.slots, graph.counted(ROWS));
+        clear(&mut outcome, &[MARKS], graph.counted(ROWS));
     }
     outcome
-}
-
-/// "Work marks are zero at exit over the rows used at entry, except after 1, when they are
-/// untouched."
-fn clear_marks(slots: &mut [Slot], used: usize) {
-    for slot in slots.iter_mut().filter(|slot| slot.number == MARKS) {
-        slot.words[..used].fill(0);
-    }
 }
 
 #[cfg(test)]

@@ -37,6 +37,7 @@ const fn call(
         expected,
         counts: &[],
         ids: &[],
+        id_slots: &[],
         edges: &[],
         edge_slots: &[],
     }

@@ -33,6 +33,7 @@ const fn of_two(number: u64, name: &'static str) -> Call {
         expected: |case| making(case).outcome(case),
         counts: &COUNTS,
         ids: &[],
+        id_slots: &[],
         edges: &[ARGUMENT, ARGUMENT + 1],
         edge_slots: &[],
     }

@@ -29,6 +29,7 @@ const fn call(number: u64, name: &'static str, expected: fn(&Case) -> Outcome) -
             width: 2,
         }],
         ids: &[1],
+        id_slots: &[],
         edges: &[],
         edge_slots: &[],
     }

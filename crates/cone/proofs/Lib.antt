@@ -1,0 +1,5 @@
+pub mod Arguments
+pub mod Marking
+pub mod Call
+pub mod Flagging
+pub mod Cone

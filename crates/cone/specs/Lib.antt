@@ -1,0 +1,4 @@
+pub mod Arguments
+pub mod Cone
+pub mod Call
+pub mod Meaning

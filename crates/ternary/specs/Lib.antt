@@ -1,0 +1,4 @@
+pub mod Codes
+pub mod Run
+pub mod Calls
+pub mod Meaning
