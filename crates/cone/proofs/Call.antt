@@ -17,10 +17,10 @@ use Rattle.rows.specs.Sizes.{maxEntries}
 use Rattle.graph.specs.Leaves.{usedEdge}
 use Rattle.graph.specs.Graph.{Lent}
 use Rattle.graph.specs.Check.{CheckSeen, checkSeen}
-use Rattle.cone.specs.Arguments.{every}
+use Rattle.roots.specs.Arguments.{every}
 use Rattle.cone.specs.Cone.{coneOf}
 use Rattle.cone.specs.Call.{coneRoom, coneChecked, coneSeen, coneCall}
-use Rattle.cone.proofs.Arguments.{Accepted, args-accepted}
+use Rattle.roots.proofs.Arguments.{Accepted, args-accepted}
 
 abbrev pub ConeAccepted : Lent → List ℕ → ℕ → ℕ → Type 0
 ConeAccepted g roots flags marks = Accepted (coneRoom g roots flags) (every (usedEdge (g .counts .rows)) roots) g marks

@@ -4,9 +4,9 @@ use Prim.Native.Nat.{ℕ, zero, suc, _≤_, _<_}
 use native.Mathlib.Omega.{arith}
 use native.Mathlib.Nat.{eq-or-lt-of-le, le-of-suc-le-suc}
 use mathlib.Core.Path.{_≡_, refl, sym, _∙_}
-use mathlib.Core.Logic.{_⊎_, inl, inr, ⊎-elim}
+use mathlib.Core.Logic.{_⊎_, ⊎-elim}
 use mathlib.Core.Bool.{Bool, true, false, cond, _&&_}
-use mathlib.Core.List.{List, [], _∷_, _++_}
+use mathlib.Core.List.{List, _++_}
 use lib.ListN.{length, getD, set, drop, replicate, length-set, length-replicate}
 use lib.Seq.{getD-set-same}
 use lib.Dec.{eqb, leb}
@@ -19,48 +19,16 @@ use Rattle.rows.specs.Value.InCone.{here, by0, by1}
 use Rattle.rows.proofs.Laws.{gate-below}
 use Rattle.graph.specs.Leaves.{usedEdge}
 use Rattle.graph.specs.Graph.{Lent}
-use Rattle.cone.specs.Arguments.{every}
-use Rattle.cone.specs.Cone.{markRoots, markRow, markBelow, coneOf}
+use Rattle.roots.specs.Arguments.{every}
+use Rattle.roots.specs.Marking.{markEdges}
+use Rattle.roots.specs.Flags.{Flagged, Flags, Closed}
+use Rattle.roots.proofs.Flagging.{set-keeps, set-cases, Bits, none-flagged, zero-bits, set-bits, same-flags, same-value, same-edge}
+use Rattle.roots.proofs.Marking.{EdgeAt, edges-long, edges-bits, edges-flagged, edges-only}
+use Rattle.cone.specs.Cone.{markRow, markBelow, coneOf}
 use Rattle.cone.specs.Call.{coneRoom, coneChecked, coneCall}
-use Rattle.cone.specs.Meaning.{Flagged, Flags, Closed, Below, IsCone, ConeLent, ConeRight}
-use Rattle.cone.proofs.Arguments.{every-at, at-every, args-accepts}
-use Rattle.cone.proofs.Marking.{roots-long}
+use Rattle.cone.specs.Meaning.{Below, IsCone, ConeLent, ConeRight}
+use Rattle.roots.proofs.Arguments.{every-at, at-every, args-accepts}
 use Rattle.cone.proofs.Call.{cone-accepted, own-sizes}
-use Rattle.cone.proofs.Flagging.{set-keeps, set-cases, Bits, none-flagged, zero-bits, set-bits, same-flags, same-value, same-edge}
-
--- ---- the roots
-roots-bits : (roots f : List ℕ) → Bits f → Bits (markRoots roots f)
-unfolding markRoots
-roots-bits [] f b = b
-roots-bits (e ∷ es) f b = roots-bits es (set f (idOf e) 1) (set-bits f (idOf e) b)
-
-roots-keep : (roots f : List ℕ) (j : ℕ) → Flagged f j → Flagged (markRoots roots f) j
-unfolding markRoots
-roots-keep [] f j m = m
-roots-keep (e ∷ es) f j m = roots-keep es (set f (idOf e) 1) j (set-keeps f (idOf e) j m)
-
-roots-flagged : (roots f : List ℕ) (k : ℕ) → k < length roots → idOf (getD roots k 0) < length f → Flagged (markRoots roots f) (idOf (getD roots k 0))
-unfolding markRoots
-roots-flagged [] f k l u = absurd (omega arith)
-roots-flagged (e ∷ es) f zero l u = roots-keep es (set f (idOf e) 1) (idOf e) (getD-set-same f (idOf e) 1 0 u)
-roots-flagged (e ∷ es) f (suc k) l u = roots-flagged es (set f (idOf e) 1) k (omega arith) (rw length-set u)
-
--- row j is a root's
-record RootAt (roots : List ℕ) (j : ℕ) : Type 0 where
-  at : ℕ
-  within : at < length roots
-  same : j ≡ idOf (getD roots at 0)
-
-roots-only : (roots f : List ℕ) (j : ℕ) → Flagged (markRoots roots f) j → RootAt roots j ⊎ Flagged f j
-unfolding markRoots
-roots-only [] f j m = inr m
-roots-only (e ∷ es) f j m = ⊎-elim (λ r. inl (later r)) (λ m. ⊎-elim (λ p. inl (first (p .0))) (λ q. inr (sym q ∙ m)) (set-cases f (idOf e) j)) (roots-only es (set f (idOf e) 1) j m)
-  where
-    later : RootAt es j → RootAt (e ∷ es) j
-    later r = record { at = suc (r .at); within = omega (arith, r .within); same = r .same }
-
-    first : j ≡ idOf e → RootAt (e ∷ es) j
-    first q = record { at = 0; within = omega arith; same = q }
 
 module _ (rows : List ℕ) where
   abbrev left : ℕ → ℕ
@@ -189,13 +157,13 @@ module _ (rows : List ℕ) where
 
   module _ (used : ℕ) (roots : List ℕ) (good : every (usedEdge used) roots ≡ true) where
     abbrev start : List ℕ
-    start = markRoots roots (replicate used 0)
+    start = markEdges roots (replicate used 0)
 
     abbrev cone : List ℕ
     cone = coneOf rows used roots
 
     start-long : length start ≡ used
-    start-long = roots-long roots (replicate used 0) ∙ length-replicate used 0
+    start-long = edges-long roots (replicate used 0) ∙ length-replicate used 0
 
     root-used : (k : ℕ) → k < length roots → idOf (getD roots k 0) < used
     root-used k l = ltb-true _ _ (every-at (usedEdge used) roots good k l)
@@ -205,14 +173,14 @@ module _ (rows : List ℕ) where
     reached j b =
         let u = root-used (b .root) (b .within) in
         reached-below used start (idOf (getD roots (b .root) 0)) j (omega (arith, start-long)) u
-        (roots-flagged roots (replicate used 0) (b .root) (b .within) (rw (length-replicate {A = ℕ} used 0) u)) (b .path)
+        (edges-flagged roots (replicate used 0) (b .root) (b .within) (rw (length-replicate {A = ℕ} used 0) u)) (b .path)
 
     only : (j : ℕ) → Flagged cone j → Below rows roots j
     unfolding coneOf
     only j m = go (only-below used start j m)
       where
         go : Started start j → Below rows roots j
-        go s = ⊎-elim (λ (r : RootAt roots (s .at)). record { root = r .at; within = r .within; path = rw (r .same) at (s .path) }) (λ m. absurd (none-flagged used (s .at) m)) (roots-only roots (replicate used 0) (s .at) (s .flagged))
+        go s = ⊎-elim (λ (r : EdgeAt roots (s .at)). record { root = r .at; within = r .within; path = rw (r .same) at (s .path) }) (λ m. absurd (none-flagged used (s .at) m)) (edges-only roots (replicate used 0) (s .at) (s .flagged))
 
     closed : Closed rows cone
     closed i m g = (reached (left i) (below (left i) (by0 g here)), reached (right i) (below (right i) (by1 g here)))
@@ -222,7 +190,7 @@ module _ (rows : List ℕ) where
 
     one-each : Flags used cone
     unfolding coneOf
-    one-each = record { long = below-long used start ∙ start-long; bits = below-bits used start (roots-bits roots (replicate used 0) (zero-bits used)) }
+    one-each = record { long = below-long used start ∙ start-long; bits = below-bits used start (edges-bits roots (replicate used 0) (zero-bits used)) }
 
     pub is-cone : IsCone rows used roots cone
     is-cone =

@@ -1,13 +1,12 @@
 -- Laws of the loops that flag rows.
 -- Assumes nothing.
-use Prim.Native.Nat.{ℕ, suc, _+_, _-_, _/_, _≤_, _<_}
+use Prim.Native.Nat.{ℕ, suc, _-_, _/_, _≤_, _<_}
 use native.Mathlib.Omega.{arith}
-use native.Mathlib.Numerals.{add-one}
 use mathlib.Core.Path.{_≡_, refl, ap, _∙_}
 use mathlib.Core.Bool.{true, false, _&&_}
-use mathlib.Core.List.{List, [], _∷_, append-nil}
-use lib.ListN.{length, getD, set, drop, replicate, drop-of-length-le, length-set, length-replicate}
-use lib.Seq.{drop-cons, drop-length}
+use mathlib.Core.List.{List, append-nil}
+use lib.ListN.{length, getD, set, replicate, length-replicate}
+use lib.Seq.{drop-length}
 use lib.Dec.{eqb}
 use Rattle.edge.specs.Edges.{idOf}
 use Rattle.edge.proofs.Tests.{both}
@@ -15,18 +14,10 @@ use Rattle.rows.specs.Rows.{word0, word1, isGate, gateAt}
 use Rattle.rows.proofs.Laws.{gate-below}
 use Rattle.graph.specs.Leaves.{usedEdge}
 use Rattle.graph.specs.Check.{cleared}
-use Rattle.cone.specs.Arguments.{every}
-use Rattle.cone.specs.Cone.{markRoots, markRow, markBelow, coneOf}
-
--- ---- the roots, by what is left of them
-module _ (roots : List ℕ) (i : ℕ) (flags : List ℕ) where
-  pub roots-end : length roots ≤ i → markRoots (drop i roots) flags ≡ flags
-  unfolding markRoots
-  roots-end l = rw drop-of-length-le
-
-  pub roots-turn : i < length roots → markRoots (drop i roots) flags ≡ markRoots (drop (i + 1) roots) (set flags (idOf (getD roots i 0)) 1)
-  unfolding markRoots
-  roots-turn l = let cons : drop i roots ≡ getD roots i 0 ∷ drop (i + 1) roots = rw (add-one, drop-cons roots i 0) in rw cons
+use Rattle.roots.specs.Arguments.{every}
+use Rattle.roots.specs.Marking.{markEdges}
+use Rattle.roots.proofs.Marking.{edges-long}
+use Rattle.cone.specs.Cone.{markRow, markBelow, coneOf}
 
 -- ---- one row
 module _ (rows : List ℕ) (i : ℕ) (flags : List ℕ) where
@@ -53,11 +44,6 @@ module _ (rows : List ℕ) (i : ℕ) (flags : List ℕ) where
   below-end l = let e : i ≡ 0 = omega arith in rw e
 
 -- ---- the three in a row
-pub roots-long : (roots flags : List ℕ) → length (markRoots roots flags) ≡ length flags
-unfolding markRoots
-roots-long [] flags = refl
-roots-long (e ∷ es) flags = roots-long es (set flags (idOf e) 1) ∙ length-set flags (idOf e) 1
-
 -- a list is cleared whole
 pub cleared-all : (l : List ℕ) (n : ℕ) → length l ≡ n → cleared n l ≡ replicate n 0
 cleared-all l n e = rw (← e, drop-length l) (append-nil (replicate (length l) 0))
@@ -72,6 +58,6 @@ module _ (rows roots flags : List ℕ) {one : List ℕ} (a : one ≡ cleared (le
   pub still-used : every (usedEdge (length flags)) roots ≡ true → every (usedEdge (length one)) roots ≡ true
   still-used u = rw one-long u
 
-  pub cone-written : {two three : List ℕ} → two ≡ markRoots roots one → three ≡ markBelow rows (length two) two → three ≡ coneOf rows (length flags) roots
+  pub cone-written : {two three : List ℕ} → two ≡ markEdges roots one → three ≡ markBelow rows (length two) two → three ≡ coneOf rows (length flags) roots
   unfolding coneOf
-  cone-written b c = c ∙ (rw (b, roots-long roots one, one-long, zeros) refl)
+  cone-written b c = c ∙ (rw (b, edges-long roots one, one-long, zeros) refl)

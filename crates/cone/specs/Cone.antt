@@ -1,17 +1,13 @@
 -- The cone: "flags of the edges' rows and all fanins below".
 -- Assumes nothing.
 use Prim.Native.Nat.{ℕ, zero, suc}
-use mathlib.Core.List.{List, [], _∷_}
+use mathlib.Core.List.{List}
 use mathlib.Core.Bool.{cond, _&&_}
 use lib.ListN.{getD, set, replicate}
 use lib.Dec.{eqb}
 use Rattle.edge.specs.Edges.{idOf}
 use Rattle.rows.specs.Rows.{word0, word1, gateAt}
-
--- the rows of the edges are flagged
-unfoldable pub markRoots : List ℕ → List ℕ → List ℕ
-markRoots [] flags = flags
-markRoots (e ∷ es) flags = markRoots es (set flags (idOf e) 1)
+use Rattle.roots.specs.Marking.{markEdges}
 
 -- where row i is flagged and is a gate, both fanins are flagged
 unfoldable pub markRow : List ℕ → ℕ → List ℕ → List ℕ
@@ -24,4 +20,4 @@ markBelow rows (suc i) flags = markBelow rows i (markRow rows i flags)
 
 -- "a flag 0 or 1 per used row"
 unfoldable pub coneOf : List ℕ → ℕ → List ℕ → List ℕ
-coneOf rows used roots = markBelow rows used (markRoots roots (replicate used 0))
+coneOf rows used roots = markBelow rows used (markEdges roots (replicate used 0))

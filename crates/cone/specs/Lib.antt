@@ -1,4 +1,3 @@
-pub mod Arguments
 pub mod Cone
 pub mod Call
 pub mod Meaning

@@ -1,6 +1,5 @@
 // The cone of edges: their rows and all fanins below.
 mod below;
-mod roots;
 
 ghost use mathlib.Core.Path.{_≡_};
 ghost use mathlib.Core.Bool.{true};
@@ -9,7 +8,7 @@ ghost use lib.ListN.{length};
 ghost use Rattle.graph.specs.Leaves.{usedEdge};
 ghost use Rattle.graph.specs.Graph.{lent};
 ghost use Rattle.graph.specs.Check.{checkSeen};
-ghost use Rattle.cone.specs.Arguments.{every};
+ghost use Rattle.roots.specs.Arguments.{every};
 ghost use Rattle.cone.specs.Cone.{coneOf};
 ghost use Rattle.cone.specs.Call.{coneChecked, coneSeen, coneCall};
 use below::mark_below;
@@ -17,7 +16,7 @@ use edge::Answer;
 use graph::Counts;
 use graph::marks::clear;
 use roots::all_used;
-use roots::mark_roots;
+use roots::mark_edges;
 use rows::sizes::MAX_ENTRIES;
 
 // Answers 1 to 4, where so many flags are lent.
@@ -71,7 +70,7 @@ fn write(rows: &[u32], roots: &[u32], flags: &mut [u32])
 {
     let used = flags.len();
     clear(flags, used);
-    mark_roots(roots, flags);
+    mark_edges(roots, flags);
     mark_below(rows, flags);
 }
 

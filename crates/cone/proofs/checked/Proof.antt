@@ -3,9 +3,9 @@
 use borrow.Author.Tests.{not-true, not-false}
 use Rattle.graph.specs.Leaves.{usedEdge}
 use Rattle.graph.specs.Graph.{Lent, lent}
-use Rattle.cone.specs.Arguments.{every}
+use Rattle.roots.specs.Arguments.{every}
 use Rattle.cone.specs.Call.{coneRoom, coneChecked}
-use Rattle.cone.proofs.Arguments.{args-room, args-bad, args-told}
+use Rattle.roots.proofs.Arguments.{args-room, args-bad, args-told}
 use borrow.Author.Needs.{needs}
 use Rattle.cone.proofs.checked.Statement.{statement}
 use Rattle.cone.proofs.checked.Tie as tie

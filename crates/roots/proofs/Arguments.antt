@@ -20,7 +20,7 @@ use Rattle.graph.specs.Graph.{Lent, Sized}
 use Rattle.graph.specs.Check.{CheckSeen, checkSeen, checkCall}
 use Rattle.graph.specs.WellFormed.{WellFormed}
 use Rattle.graph.proofs.WellFormed.{exact}
-use Rattle.cone.specs.Arguments.{every, argsCall}
+use Rattle.roots.specs.Arguments.{every, argsCall}
 
 -- ---- every entry of a list, by what is left of it
 module _ (good : ℕ → Bool) (xs : List ℕ) (i : ℕ) where

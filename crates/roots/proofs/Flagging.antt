@@ -13,7 +13,7 @@ use Rattle.edge.specs.Meaning.{edgeValue}
 use Rattle.rows.specs.Value.{value, InCone}
 use Rattle.rows.specs.Value.InCone.{here, by0, by1}
 use Rattle.rows.proofs.Value.{local}
-use Rattle.cone.specs.Meaning.{Flagged, Flags, Closed, AgreeOn}
+use Rattle.roots.specs.Flags.{Flagged, Flags, Closed, AgreeOn}
 
 -- ---- one store of a flag
 pub set-keeps : (f : List ℕ) (a j : ℕ) → Flagged f j → Flagged (set f a 1) j

@@ -1,21 +1,21 @@
--- `cone::roots::all_used` meets its contract.
+-- `roots::all_used` meets its contract.
 -- Assumes nothing.
 use Prim.Native.Nat.{_-_, _≤_}
 use mathlib.Core.Path.{_≡_, refl, sym, _∙_}
 use lib.ListN.{length, drop}
 use borrow.Author.Tests.{not-true, not-false}
 use Rattle.graph.specs.Leaves.{usedEdge}
-use Rattle.cone.specs.Arguments.{every}
-use Rattle.cone.proofs.Arguments.{every-end, every-stops, every-goes}
+use Rattle.roots.specs.Arguments.{every}
+use Rattle.roots.proofs.Arguments.{every-end, every-stops, every-goes}
 use borrow.Author.Needs.{needs}
-use Rattle.cone.proofs.roots.all_used.Statement.{statement}
-use Rattle.cone.proofs.roots.all_used.Tie as tie
+use Rattle.roots.proofs.all_used.Statement.{statement}
+use Rattle.roots.proofs.all_used.Tie as tie
 
 abbrev Inv-loop : tie.InvT-loop
-Inv-loop roots used i₀ i-end i = (i ≤ length roots) × (every (usedEdge used) (drop i roots) ≡ every (usedEdge used) roots)
+Inv-loop edges used i₀ i-end i = (i ≤ length edges) × (every (usedEdge used) (drop i edges) ≡ every (usedEdge used) edges)
 
 abbrev μ-loop : tie.MeasureT-loop
-μ-loop roots used i₀ i-end i = length roots - i
+μ-loop edges used i₀ i-end i = length edges - i
 
 loop-holds : tie.Need-loop-holds Inv-loop μ-loop
 loop-holds c = (search needs, refl)

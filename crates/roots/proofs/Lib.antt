@@ -1,0 +1,4 @@
+pub mod Arguments
+pub mod Flagging
+pub mod Marking
+pub mod Roots

@@ -1,0 +1,4 @@
+pub mod Arguments
+pub mod Marking
+pub mod Flags
+pub mod Roots
