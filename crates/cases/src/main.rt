@@ -1,28 +1,16 @@
 // Replays a script of cases from standard input, and writes what each call answers and leaves.
-mod arguments;
 mod build_calls;
 mod check_call;
+mod cone_calls;
 mod edges;
-mod lending;
-mod outcome;
-mod reader;
-mod report;
 mod row_calls;
-mod script;
-mod slots;
-mod writer;
+mod ternary_calls;
 
-use libc::STDOUT_FILENO;
-use outcome::Outcome;
-use reader::Reader;
-use script::Case;
-use writer::Writer;
-
-// Where reading and writing stand. The run goes on while the reader is good.
-struct Run {
-    reader: Reader,
-    writer: Writer,
-}
+use replay::outcome;
+use replay::outcome::Outcome;
+use replay::reader;
+use replay::script;
+use replay::slots;
 
 // The arena holds 600,000 words, and three words more for each of 32 slots.
 fn main() {
@@ -30,17 +18,23 @@ fn main() {
     let mut output = [0u8; 65536];
     let mut arena = [0u32; 600096];
     let mut scalars = [0u64; 32];
-    let mut marks = [0u32; 65600];
-    let mut rows = [0u32; 131200];
-    let mut list = [0u32; 196800];
+    let mut small = [0u32; 65600];
+    let mut middle = [0u32; 131200];
+    let mut large = [0u32; 196800];
+    let mut inputs = [0u8; 65600];
+    let mut state = [0u8; 65600];
+    let mut values = [0u8; 65600];
     with(
         &mut input,
         &mut output,
         &mut arena,
         &mut scalars,
-        &mut marks,
-        &mut rows,
-        &mut list,
+        &mut small,
+        &mut middle,
+        &mut large,
+        &mut inputs,
+        &mut state,
+        &mut values,
     );
 }
 
@@ -50,16 +44,28 @@ fn with(
     output: &mut [u8; 65536],
     arena: &mut [u32; 600096],
     scalars: &mut [u64; 32],
-    marks: &mut [u32; 65600],
-    rows: &mut [u32; 131200],
-    list: &mut [u32; 196800],
+    small: &mut [u32; 65600],
+    middle: &mut [u32; 131200],
+    large: &mut [u32; 196800],
+    inputs: &mut [u8; 65600],
+    state: &mut [u8; 65600],
+    values: &mut [u8; 65600],
 ) {
-    start(input, output, arena, scalars, marks, rows, list);
+    start(
+        input,
+        output,
+        arena,
+        scalars,
+        small,
+        middle,
+        large,
+        inputs,
+        state,
+        values,
+    );
 }
 
-// Replays case after case. Each group of calls makes the call if it is one of its own, and else hands on the outcome that it was given; so
-// an array is lent to the groups that write to it and to nothing else. The call of a case that could not be read is made too, and nothing
-// is written of it.
+// Replays case after case. The call of a case that could not be read is made too, and nothing is written of it.
 //
 // A proved loop has to end, and nothing says that a script does. So the loop counts its turns down, from a number that no run uses up.
 fn start(
@@ -67,24 +73,62 @@ fn start(
     output: &mut [u8],
     arena: &mut [u32],
     scalars: &mut [u64],
-    marks: &mut [u32],
-    rows: &mut [u32],
-    list: &mut [u32],
+    small: &mut [u32],
+    middle: &mut [u32],
+    large: &mut [u32],
+    inputs: &mut [u8],
+    state: &mut [u8],
+    values: &mut [u8],
 ) {
-    let mut run = Run {
-        reader: reader::new(),
-        writer: writer::new(),
-    };
+    let mut run = replay::begun();
     let mut turns = u64::MAX;
     while turns > 0 && reader::is_good(run.reader) {
         turns -= 1;
         let case = script::next_case(input, arena, scalars, run.reader);
-        let mut o = reading(case.call, arena, scalars);
-        o = check_call::run(case.call, o, arena, scalars, marks);
-        o = build_calls::run(case.call, o, arena, scalars, rows, list);
-        run = written(output, arena, run.writer, case, o);
+        let o = made(
+            case.call,
+            arena,
+            scalars,
+            small,
+            middle,
+            large,
+            inputs,
+            state,
+            values,
+        );
+        run = replay::written(output, arena, run.writer, case, o);
     }
-    finish(output, run);
+    replay::finish(output, run);
+}
+
+// Makes the call. An array takes the words of a slot that the call writes to.
+fn made(
+    call: u64,
+    arena: &mut [u32],
+    scalars: &[u64],
+    small: &mut [u32],
+    middle: &mut [u32],
+    large: &mut [u32],
+    inputs: &mut [u8],
+    state: &mut [u8],
+    values: &mut [u8],
+) -> Outcome {
+    if call < 30 {
+        return reading(call, arena, scalars);
+    }
+    if call == 30 {
+        return check_call::run(arena, scalars, small);
+    }
+    if (40 <= call) & (call < 60) {
+        return build_calls::run(call, arena, scalars, middle, large);
+    }
+    if call == 60 {
+        return cone_calls::run(arena, scalars, small, middle);
+    }
+    if (90 <= call) & (call < 93) {
+        return ternary_calls::run(call, arena, scalars, small, inputs, state, values);
+    }
+    outcome::unknown()
 }
 
 // Makes a call that writes to no slot.
@@ -93,31 +137,5 @@ fn reading(call: u64, arena: &[u32], scalars: &[u64]) -> Outcome {
         1..=11 => edges::run(call, scalars, slots::words(arena, slots::LIST)),
         20..=24 => row_calls::run(call, scalars, slots::words(arena, slots::ROWS)),
         _ => outcome::unknown(),
-    }
-}
-
-// Writes what a call leaves. Where there was no case, or none that could be read or replayed, the run ends.
-fn written(output: &mut [u8], arena: &[u32], w: Writer, case: Case, o: Outcome) -> Run {
-    let reader = case.reader;
-    if !reader::is_good(reader) {
-        return Run { reader, writer: w };
-    }
-    if !o.is_known {
-        return Run {
-            reader: reader::spoilt(reader),
-            writer: w,
-        };
-    }
-    let first = report::answer(output, w, case.call, o);
-    let writer = report::slot_lines(output, first, arena, case.used);
-    Run { reader, writer }
-}
-
-// Writes out what is left, and says so where the script could not be read.
-fn finish(output: &[u8], run: Run) {
-    let reader = run.reader;
-    writer::flushed(output, run.writer);
-    if reader.bad {
-        io::write_all(STDOUT_FILENO, b"unreadable\n");
     }
 }

@@ -9,17 +9,13 @@ use Rattle.cases.proofs.start.Statement.{statement}
 use Rattle.cases.proofs.start.Tie as tie
 
 abbrev Inv-loop : tie.InvT-loop
-Inv-loop input₀ output₀ arena₀ scalars₀ marks₀ rows₀ list₀ run₀ turns₀ input output arena scalars marks rows list run turns =
-    (length input ≡ length input₀) × (length output ≡ length output₀) × (length arena ≡ length arena₀) × (length scalars ≡ length scalars₀) × (length marks ≡ length marks₀) × (length rows ≡ length rows₀) × (length list ≡ length list₀)
+Inv-loop input₀ output₀ arena₀ scalars₀ small₀ middle₀ large₀ inputs₀ state₀ values₀ run₀ turns₀ input output arena scalars small middle large inputs state values run turns = (length input ≡ length input₀) × (length output ≡ length output₀) × (length arena ≡ length arena₀) × (length scalars ≡ length scalars₀) × (length small ≡ length small₀) × (length middle ≡ length middle₀) × (length large ≡ length large₀) × (length inputs ≡ length inputs₀) × (length state ≡ length state₀) × (length values ≡ length values₀)
 
 abbrev μ-loop : tie.MeasureT-loop
-μ-loop input₀ output₀ arena₀ scalars₀ marks₀ rows₀ list₀ run₀ turns₀ input output arena scalars marks rows list run turns = turns
+μ-loop input₀ output₀ arena₀ scalars₀ small₀ middle₀ large₀ inputs₀ state₀ values₀ run₀ turns₀ input output arena scalars small middle large inputs state values run turns = turns
 
-new-requires : tie.Need-new-requires Inv-loop μ-loop
-new-requires c κs = search needs
-
-new-requires-2 : tie.Need-new-requires-2 Inv-loop μ-loop
-new-requires-2 c κs = search needs
+begun-requires : tie.Need-begun-requires Inv-loop μ-loop
+begun-requires c κs = search needs
 
 loop-holds : tie.Need-loop-holds Inv-loop μ-loop
 loop-holds c = search needs
@@ -33,36 +29,17 @@ sub-turns c = search needs
 next-case-requires : tie.Need-next-case-requires Inv-loop μ-loop
 next-case-requires c κs = search needs
 
-reading-requires : tie.Need-reading-requires Inv-loop μ-loop
-reading-requires c κs = search needs
-
-run-requires : tie.Need-run-requires Inv-loop μ-loop
-run-requires c κs = search needs
-
-run-requires-2 : tie.Need-run-requires-2 Inv-loop μ-loop
-run-requires-2 c κs = search needs
+made-requires : tie.Need-made-requires Inv-loop μ-loop
+made-requires c κs = search needs
 
 written-requires : tie.Need-written-requires Inv-loop μ-loop
 written-requires c κs = search needs
 
 loop-less : tie.Need-loop-less Inv-loop μ-loop
-loop-less c = omega (arith, c .before .before .before .before .before .before .before .before .before .before .before .before .before .before .before .before .before .before .before .before .before .before .before .before .before .before .before .before .before .before .before .before .before .before .before .before .before .before .before .loop-test .taken)
+loop-less c = omega (arith, c .before .before .before .before .before .before .before .before .before .before .before .before .before .before .before .before .before .before .before .before .before .before .before .before .before .before .before .before .before .before .before .before .before .before .before .before .before .before .before .before .loop-test .taken)
 
 loop-again : tie.Need-loop-again Inv-loop μ-loop
-loop-again c =
-    let at-written = c .before .before in
-    let at-build = at-written .before .before .before .before .before .before .before .before .before in
-    let at-run = at-build .before .before .before .before .before .before .before .before .before in
-    let at-next-case = at-run .before .before .before .before .before .before .before .before .before .before .before .before .before in
-    let at-loop = at-next-case .before .before .before .before .before .before .before in (
-      at-next-case .next-case .kept .0 ∙ at-loop .loop .inv .0,
-      at-written .written .kept .0 ∙ at-loop .loop .inv .1,
-      at-build .run2 .kept .1 .1 .0 ∙ (at-run .run .kept .1 .1 .0 ∙ (at-next-case .next-case .kept .1 .0 ∙ at-loop .loop .inv .2)),
-      at-next-case .next-case .kept .1 .1 .0 ∙ at-loop .loop .inv .3,
-      at-run .run .kept .1 .1 .1 .1 .0 ∙ at-loop .loop .inv .4,
-      at-build .run2 .kept .1 .1 .1 .1 .0 ∙ at-loop .loop .inv .5,
-      at-build .run2 .kept .1 .1 .1 .1 .1 .0 ∙ at-loop .loop .inv .6,
-    )
+loop-again c = (c .before .before .before .before .before .before .before .before .before .before .before .before .before .before .before .before .before .before .before .before .before .before .before .before .before .before .before .before .before .before .before .before .before .before .next-case .kept .0 ∙ c .before .before .before .before .before .before .before .before .before .before .before .before .before .before .before .before .before .before .before .before .before .before .before .before .before .before .before .before .before .before .before .before .before .before .before .before .before .before .before .before .before .loop .inv .0, c .before .before .written .kept .0 ∙ c .before .before .before .before .before .before .before .before .before .before .before .before .before .before .before .before .before .before .before .before .before .before .before .before .before .before .before .before .before .before .before .before .before .before .before .before .before .before .before .before .before .loop .inv .1, c .before .before .before .before .before .before .before .before .before .before .before .before .before .before .before .before .before .before .before .made .kept .1 .0 ∙ (c .before .before .before .before .before .before .before .before .before .before .before .before .before .before .before .before .before .before .before .before .before .before .before .before .before .before .before .before .before .before .before .before .before .before .next-case .kept .1 .0 ∙ c .before .before .before .before .before .before .before .before .before .before .before .before .before .before .before .before .before .before .before .before .before .before .before .before .before .before .before .before .before .before .before .before .before .before .before .before .before .before .before .before .before .loop .inv .2), c .before .before .before .before .before .before .before .before .before .before .before .before .before .before .before .before .before .before .before .before .before .before .before .before .before .before .before .before .before .before .before .before .before .before .next-case .kept .1 .1 .0 ∙ c .before .before .before .before .before .before .before .before .before .before .before .before .before .before .before .before .before .before .before .before .before .before .before .before .before .before .before .before .before .before .before .before .before .before .before .before .before .before .before .before .before .loop .inv .3, c .before .before .before .before .before .before .before .before .before .before .before .before .before .before .before .before .before .before .before .made .kept .1 .1 .1 .0 ∙ c .before .before .before .before .before .before .before .before .before .before .before .before .before .before .before .before .before .before .before .before .before .before .before .before .before .before .before .before .before .before .before .before .before .before .before .before .before .before .before .before .before .loop .inv .4, c .before .before .before .before .before .before .before .before .before .before .before .before .before .before .before .before .before .before .before .made .kept .1 .1 .1 .1 .0 ∙ c .before .before .before .before .before .before .before .before .before .before .before .before .before .before .before .before .before .before .before .before .before .before .before .before .before .before .before .before .before .before .before .before .before .before .before .before .before .before .before .before .before .loop .inv .5, c .before .before .before .before .before .before .before .before .before .before .before .before .before .before .before .before .before .before .before .made .kept .1 .1 .1 .1 .1 .0 ∙ c .before .before .before .before .before .before .before .before .before .before .before .before .before .before .before .before .before .before .before .before .before .before .before .before .before .before .before .before .before .before .before .before .before .before .before .before .before .before .before .before .before .loop .inv .6, c .before .before .before .before .before .before .before .before .before .before .before .before .before .before .before .before .before .before .before .made .kept .1 .1 .1 .1 .1 .1 .0 ∙ c .before .before .before .before .before .before .before .before .before .before .before .before .before .before .before .before .before .before .before .before .before .before .before .before .before .before .before .before .before .before .before .before .before .before .before .before .before .before .before .before .before .loop .inv .7, c .before .before .before .before .before .before .before .before .before .before .before .before .before .before .before .before .before .before .before .made .kept .1 .1 .1 .1 .1 .1 .1 .0 ∙ c .before .before .before .before .before .before .before .before .before .before .before .before .before .before .before .before .before .before .before .before .before .before .before .before .before .before .before .before .before .before .before .before .before .before .before .before .before .before .before .before .before .loop .inv .8, c .before .before .before .before .before .before .before .before .before .before .before .before .before .before .before .before .before .before .before .made .kept .1 .1 .1 .1 .1 .1 .1 .1 .0 ∙ c .before .before .before .before .before .before .before .before .before .before .before .before .before .before .before .before .before .before .before .before .before .before .before .before .before .before .before .before .before .before .before .before .before .before .before .before .before .before .before .before .before .loop .inv .9)
 
 finish-requires : tie.Need-finish-requires Inv-loop μ-loop
 finish-requires c κs = search needs
@@ -88,6 +65,15 @@ same-length-6 c = search needs
 same-length-7 : tie.Need-same-length-7 Inv-loop μ-loop
 same-length-7 c = search needs
 
+same-length-8 : tie.Need-same-length-8 Inv-loop μ-loop
+same-length-8 c = search needs
+
+same-length-9 : tie.Need-same-length-9 Inv-loop μ-loop
+same-length-9 c = search needs
+
+same-length-10 : tie.Need-same-length-10 Inv-loop μ-loop
+same-length-10 c = search needs
+
 returns : tie.Need-returns Inv-loop μ-loop
 returns c = search needs
 
@@ -97,15 +83,12 @@ start-spec =
     (tie.spec
     Inv-loop
     μ-loop
-    new-requires
-    new-requires-2
+    begun-requires
     loop-holds
     is-good-requires
     sub-turns
     next-case-requires
-    reading-requires
-    run-requires
-    run-requires-2
+    made-requires
     written-requires
     loop-less
     loop-again
@@ -117,4 +100,7 @@ start-spec =
     same-length-5
     same-length-6
     same-length-7
+    same-length-8
+    same-length-9
+    same-length-10
     returns)
