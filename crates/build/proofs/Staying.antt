@@ -17,7 +17,7 @@ use Rattle.rows.specs.Sizes.{maxRows, rowsLent, rowsFit}
 use Rattle.rows.specs.Rows.{none, leafAt, AllRows}
 use Rattle.graph.specs.declared.Counts.{Counts}
 use Rattle.graph.specs.declared.latch.Latch.{Latch}
-use Rattle.graph.specs.Latches.{latchWords, latchAt, latchInputs}
+use Rattle.graph.specs.Latches.{latchWords, latchAt, latchInputs, latchSet}
 use Rattle.graph.specs.Leaves.{member, usedEdge, latchEdges}
 use Rattle.graph.specs.Graph.{Lent}
 use Rattle.graph.specs.WellFormed.{UsedLeaf, listed, WellFormed}
@@ -26,7 +26,7 @@ use Rattle.build.specs.Calls.{answerOf, counted, left, callOf}
 use Rattle.build.specs.Gates.{State}
 use Rattle.build.specs.Lists.{listOf, eqOf}
 use Rattle.build.specs.Nodes.{gateCall, listCall, eqCall}
-use Rattle.build.specs.Leaves.{newCall, leafAdded, freeRow, leafAnswer, leafCall, inputAnswer, newInputCall, addInputCall, latch, latchSet, latchAnswer, newLatchCall, addLatchCall}
+use Rattle.build.specs.Leaves.{newCall, leafAdded, freeRow, leafAnswer, leafCall, inputAnswer, newInputCall, addInputCall, latch, latchAnswer, newLatchCall, addLatchCall}
 use Rattle.build.specs.Meaning.{Grows}
 use Rattle.build.specs.Graphs.{withRows, withInputs, withLatches, Fresh, Staying}
 use Rattle.build.proofs.Answering.{all-three}

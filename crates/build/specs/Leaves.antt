@@ -11,7 +11,7 @@ use Rattle.rows.specs.Sizes.{maxRows, maxEntries, fits, rowsLent, rowsFit}
 use Rattle.rows.specs.Rows.{falseWord, none}
 use Rattle.graph.specs.declared.Counts.{Counts}
 use Rattle.graph.specs.declared.latch.Latch.{Latch}
-use Rattle.graph.specs.Latches.{latchWords, latchesLent}
+use Rattle.graph.specs.Latches.{latchesLent, latchSet}
 use Rattle.graph.specs.Leaves.{latchEdges}
 use Rattle.build.specs.declared.calls.Built.{Built}
 use Rattle.build.specs.declared.calls.Added.{Added}
@@ -66,11 +66,6 @@ addInputCall rows inputs n input =
 -- ---- latches
 abbrev pub latch : ℕ → ℕ → ℕ → Latch
 latch input next init = record { input = input; next = next; init = init }
-
--- latch i is written: its words stand where `latchAt` reads them
-unfoldable pub latchSet : List ℕ → ℕ → Latch → List ℕ
-latchSet latches i l =
-    set (set (set latches (latchWords * i) (l .input)) (latchWords * i + 1) (l .next)) (latchWords * i + 2) (l .init)
 
 unfoldable pub latchAnswer : List ℕ → List ℕ → Counts → Bool → Bool → Given
 latchAnswer rows latches n good row =

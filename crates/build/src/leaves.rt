@@ -4,9 +4,8 @@ ghost use mathlib.Core.List.{[]};
 ghost use Prim.Native.Nat.{_+_, _*_, _≤_};
 ghost use lib.ListN.{length};
 ghost use Rattle.edge.specs.Answers.{told};
-ghost use Rattle.graph.specs.Latches.{latchWords};
 ghost use Rattle.build.specs.Calls.{counted, builtSeen, addedSeen};
-ghost use Rattle.build.specs.Leaves.{noCounts, newCall, freeRow, leafCall, inputAnswer, newInputCall, addInputCall, latchSet, latchAnswer, newLatchCall, addLatchCall};
+ghost use Rattle.build.specs.Leaves.{noCounts, newCall, freeRow, leafCall, inputAnswer, newInputCall, addInputCall, latchAnswer, newLatchCall, addLatchCall};
 use crate::calls::Added;
 use crate::calls::Built;
 use crate::calls::answered;
@@ -18,6 +17,7 @@ use edge::Answer;
 use graph::Counts;
 use graph::latch::LATCH_WORDS;
 use graph::latch::Latch;
+use graph::latch::write_latch;
 use graph::leaves::latch_edges;
 use rows::kinds::FALSE_ROW;
 use rows::kinds::NONE;
@@ -144,17 +144,6 @@ pub fn add_input(rows: &[u32], inputs: &mut [u32], counts: Counts, input: u32) -
     let n = counts.inputs;
     inputs[n] = input;
     added(answer, counts, used, n + 1, counts.latches, input)
-}
-
-// Writes latch i.
-fn write_latch(latches: &mut [u32], i: usize, l: Latch)
-    requires { ⌜ latchWords * (i + 1) ≤ length (now latches) ⌝ }
-    ensures { λ _. ⌜ now (latches .exit) ≡ latchSet (now (latches .entry)) i l ⌝ }
-{
-    let at = LATCH_WORDS * i;
-    latches[at] = l.input;
-    latches[at + 1] = l.next;
-    latches[at + 2] = l.init;
 }
 
 // What a latch constructor answers.

@@ -4,9 +4,8 @@ use Prim.Native.Nat.{ℕ, suc, _-_, _/_, _≤_, _<_}
 use native.Mathlib.Omega.{arith}
 use mathlib.Core.Path.{_≡_, refl, ap, _∙_}
 use mathlib.Core.Bool.{true, false, _&&_}
-use mathlib.Core.List.{List, append-nil}
+use mathlib.Core.List.{List}
 use lib.ListN.{length, getD, set, replicate, length-replicate}
-use lib.Seq.{drop-length}
 use lib.Dec.{eqb}
 use Rattle.edge.specs.Edges.{idOf}
 use Rattle.edge.proofs.Tests.{both}
@@ -17,6 +16,7 @@ use Rattle.graph.specs.Check.{cleared}
 use Rattle.roots.specs.Arguments.{every}
 use Rattle.roots.specs.Marking.{markEdges}
 use Rattle.roots.proofs.Marking.{edges-long}
+use Rattle.roots.proofs.Flagging.{cleared-all}
 use Rattle.cone.specs.Cone.{markRow, markBelow, coneOf}
 
 -- ---- one row
@@ -44,10 +44,6 @@ module _ (rows : List ℕ) (i : ℕ) (flags : List ℕ) where
   below-end l = let e : i ≡ 0 = omega arith in rw e
 
 -- ---- the three in a row
--- a list is cleared whole
-pub cleared-all : (l : List ℕ) (n : ℕ) → length l ≡ n → cleared n l ≡ replicate n 0
-cleared-all l n e = rw (← e, drop-length l) (append-nil (replicate (length l) 0))
-
 module _ (rows roots flags : List ℕ) {one : List ℕ} (a : one ≡ cleared (length flags) flags) where
   zeros : one ≡ replicate (length flags) 0
   zeros = a ∙ cleared-all flags (length flags) refl

@@ -1,5 +1,5 @@
 // The cone of edges: their rows and all fanins below.
-mod below;
+pub mod below;
 
 ghost use mathlib.Core.Path.{_≡_};
 ghost use mathlib.Core.Bool.{true};

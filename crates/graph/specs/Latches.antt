@@ -2,7 +2,7 @@
 -- Assumes nothing.
 use Prim.Native.Nat.{ℕ, zero, suc, _+_, _*_, _/_}
 use mathlib.Core.List.{List, [], _∷_, _++_}
-use lib.ListN.{length, getD}
+use lib.ListN.{length, getD, set}
 use Rattle.graph.specs.declared.latch.Latch.{Latch}
 
 -- how many words a latch has
@@ -15,6 +15,11 @@ latchesLent latches = length latches / latchWords
 abbrev pub latchAt : List ℕ → ℕ → Latch
 latchAt latches i =
     record { input = getD latches (latchWords * i) 0; next = getD latches (latchWords * i + 1) 0; init = getD latches (latchWords * i + 2) 0 }
+
+-- latch i is written: its words stand where `latchAt` reads them
+unfoldable pub latchSet : List ℕ → ℕ → Latch → List ℕ
+latchSet latches i l =
+    set (set (set latches (latchWords * i) (l .input)) (latchWords * i + 1) (l .next)) (latchWords * i + 2) (l .init)
 
 -- the inputs of the first n latches
 unfoldable pub latchInputs : List ℕ → ℕ → List ℕ

@@ -2,7 +2,7 @@
 ghost use mathlib.Core.Path.{_≡_};
 ghost use Prim.Native.Nat.{_+_, _*_, _≤_, _<_};
 ghost use lib.ListN.{length};
-ghost use Rattle.graph.specs.Latches.{latchWords, latchAt};
+ghost use Rattle.graph.specs.Latches.{latchWords, latchAt, latchSet};
 
 pub struct Latch {
     // A leaf's id.
@@ -26,4 +26,15 @@ pub fn latch_at(latches: &[u32], i: usize) -> Latch
         next: latches[at + 1],
         init: latches[at + 2],
     }
+}
+
+// Writes latch i.
+pub fn write_latch(latches: &mut [u32], i: usize, l: Latch)
+    requires { ⌜ latchWords * (i + 1) ≤ length (now latches) ⌝ }
+    ensures { λ _. ⌜ now (latches .exit) ≡ latchSet (now (latches .entry)) i l ⌝ }
+{
+    let at = LATCH_WORDS * i;
+    latches[at] = l.input;
+    latches[at + 1] = l.next;
+    latches[at + 2] = l.init;
 }

@@ -15,10 +15,11 @@ use Rattle.edge.specs.declared.answer.Answer.the-variants.{BadSizes, BadArgumen
 use Rattle.edge.specs.declared.answer.Given.{Given}
 use Rattle.edge.specs.Answers.{done, badArgument, told, orElse}
 use Rattle.edge.proofs.Tests.{both, both-true, false-true}
-use Rattle.edge.proofs.Answers.{none-of-two, goes-past}
-use Rattle.graph.specs.Graph.{Lent, Sized}
-use Rattle.graph.specs.Check.{CheckSeen, checkSeen, checkCall}
+use Rattle.edge.proofs.Answers.{stops-here, none-of-two, goes-past}
+use Rattle.graph.specs.Graph.{Lent, sizesRight, Sized}
+use Rattle.graph.specs.Check.{contents, cleared, CheckSeen, checkSeen, checkCall}
 use Rattle.graph.specs.WellFormed.{WellFormed}
+use Rattle.graph.proofs.Checked.{sized}
 use Rattle.graph.proofs.WellFormed.{exact}
 use Rattle.roots.specs.Arguments.{every, argsCall}
 
@@ -84,7 +85,70 @@ module _ (room good : Bool) (g : Lent) (marks : List ℕ) where
       let t = exact g marks .accepts (a .sized) (a .well-formed) in
       rw (a .roomy, a .all-good, t) (goes-past done done refl)
 
-  -- the graph's check is made, and then the arguments are looked at
+  -- past 1 the call's own slices are right
+  pub args-roomy : (argsCall room good g marks .given .number ≡ 1 → ⊥) → room ≡ true
+  unfolding argsCall
+  args-roomy = go room refl
+    where
+      go : (r : Bool) → room ≡ r
+          → (cond {A = CheckSeen} r (record { given = orElse (checkCall g marks .given) (cond good done badArgument); marks = checkCall g marks .marks }) (checkSeen BadSizes marks) .given .number ≡ 1 → ⊥)
+          → room ≡ true
+      go true e h = e
+      go false e h = absurd (h refl)
+
+  -- ---- the marks: untouched after 1, and else cleared
+  check-untouched : checkCall g marks .given .number ≡ 1 → checkCall g marks .marks ≡ marks
+  unfolding checkCall
+  check-untouched z = go (sizesRight g (length marks)) refl
+    where
+      go : (t : Bool) → sizesRight g (length marks) ≡ t
+          → cond {A = CheckSeen} t (record { given = contents g; marks = cleared (g .counts .rows) marks }) (checkSeen BadSizes marks) .marks ≡ marks
+      go true e = absurd (exact g marks .refused z (sized g (length marks) e))
+      go false e = refl
+
+  check-cleared : (checkCall g marks .given .number ≡ 1 → ⊥) → checkCall g marks .marks ≡ cleared (g .counts .rows) marks
+  unfolding checkCall
+  check-cleared = go (sizesRight g (length marks))
+    where
+      go : (t : Bool)
+          → (cond {A = CheckSeen} t (record { given = contents g; marks = cleared (g .counts .rows) marks }) (checkSeen BadSizes marks) .given .number ≡ 1 → ⊥)
+          → cond {A = CheckSeen} t (record { given = contents g; marks = cleared (g .counts .rows) marks }) (checkSeen BadSizes marks) .marks ≡ cleared (g .counts .rows) marks
+      go true h = refl
+      go false h = absurd (h refl)
+
+  -- only the check of the graph answers 1 behind it
+  by-check : orElse (checkCall g marks .given) (cond good done badArgument) .number ≡ 1 → checkCall g marks .given .number ≡ 1
+  unfolding orElse
+  by-check = go (eqb (checkCall g marks .given .number) 0) good
+    where
+      go : (t d : Bool) → cond t (cond d done badArgument) (checkCall g marks .given) .number ≡ 1 → checkCall g marks .given .number ≡ 1
+      go true true z = absurd (omega arith)
+      go true false z = absurd (omega arith)
+      go false d z = z
+
+  pub args-untouched : argsCall room good g marks .given .number ≡ 1 → argsCall room good g marks .marks ≡ marks
+  unfolding argsCall
+  args-untouched = go room
+    where
+      go : (r : Bool) → cond {A = CheckSeen} r (record { given = orElse (checkCall g marks .given) (cond good done badArgument); marks = checkCall g marks .marks }) (checkSeen BadSizes marks) .given .number ≡ 1
+          → cond {A = CheckSeen} r (record { given = orElse (checkCall g marks .given) (cond good done badArgument); marks = checkCall g marks .marks }) (checkSeen BadSizes marks) .marks ≡ marks
+      go true z = check-untouched (by-check z)
+      go false z = refl
+
+  pub args-cleared : (argsCall room good g marks .given .number ≡ 1 → ⊥) → argsCall room good g marks .marks ≡ cleared (g .counts .rows) marks
+  unfolding argsCall
+  args-cleared = go room
+    where
+      one : checkCall g marks .given .number ≡ 1 → orElse (checkCall g marks .given) (cond good done badArgument) .number ≡ 1
+      one z = rw (stops-here (checkCall g marks .given) (cond good done badArgument) (λ (o : checkCall g marks .given .number ≡ 0). absurd (omega arith))) z
+
+      go : (r : Bool)
+          → (cond {A = CheckSeen} r (record { given = orElse (checkCall g marks .given) (cond good done badArgument); marks = checkCall g marks .marks }) (checkSeen BadSizes marks) .given .number ≡ 1 → ⊥)
+          → cond {A = CheckSeen} r (record { given = orElse (checkCall g marks .given) (cond good done badArgument); marks = checkCall g marks .marks }) (checkSeen BadSizes marks) .marks ≡ cleared (g .counts .rows) marks
+      go true h = check-cleared (λ z. h (one z))
+      go false h = absurd (h refl)
+
+  -- ---- the graph's check is made, and then the arguments are looked at
   module _ (e : room ≡ true) (a : Answer) (after : List ℕ) (seen : checkSeen a after ≡ checkCall g marks) where
     given : told a ≡ checkCall g marks .given
     given = ap (λ (s : CheckSeen). s .given) seen

@@ -5,14 +5,15 @@ use native.Mathlib.Omega.{arith}
 use mathlib.Core.Path.{_≡_, refl, sym, ap, _∙_}
 use mathlib.Core.Logic.{_⊎_, inl, inr, ⊎-elim}
 use mathlib.Core.Bool.{Bool, cond, not}
-use mathlib.Core.List.{List, [], _∷_}
+use mathlib.Core.List.{List, [], _∷_, append-nil}
 use lib.ListN.{length, getD, set, replicate}
-use lib.Seq.{ext-getD}
+use lib.Seq.{drop-length, ext-getD}
 use Rattle.edge.specs.Edges.{idOf, isComplemented}
 use Rattle.edge.specs.Meaning.{edgeValue}
 use Rattle.rows.specs.Value.{value, InCone}
 use Rattle.rows.specs.Value.InCone.{here, by0, by1}
 use Rattle.rows.proofs.Value.{local}
+use Rattle.graph.specs.Check.{cleared}
 use Rattle.roots.specs.Flags.{Flagged, Flags, Closed, AgreeOn}
 
 -- ---- one store of a flag
@@ -30,6 +31,11 @@ set-cases (x ∷ f) zero zero = inl (refl, refl)
 set-cases (x ∷ f) zero (suc j) = inr refl
 set-cases (x ∷ f) (suc a) zero = inr refl
 set-cases (x ∷ f) (suc a) (suc j) = ⊎-elim (λ p. inl (ap suc (p .0), p .1)) (λ e. inr e) (set-cases f a j)
+
+-- ---- clearing
+-- a list is cleared whole
+pub cleared-all : (l : List ℕ) (n : ℕ) → length l ≡ n → cleared n l ≡ replicate n 0
+cleared-all l n e = rw (← e, drop-length l) (append-nil (replicate (length l) 0))
 
 -- ---- flags are 0 or 1
 abbrev pub Bits : List ℕ → Type 0

@@ -1,12 +1,12 @@
--- `build::leaves::write_latch` meets its contract.
+-- `graph::latch::write_latch` meets its contract.
 -- Assumes nothing.
 use native.Mathlib.Omega.{arith}
 use mathlib.Core.Path.{refl}
 use lib.ListN.{length-set}
-use Rattle.build.specs.Leaves.{latchSet}
+use Rattle.graph.specs.Latches.{latchSet}
 use borrow.Author.Needs.{needs}
-use Rattle.build.proofs.leaves.write_latch.Statement.{statement}
-use Rattle.build.proofs.leaves.write_latch.Tie as tie
+use Rattle.graph.proofs.latch.write_latch.Statement.{statement}
+use Rattle.graph.proofs.latch.write_latch.Tie as tie
 
 mul-at : tie.Need-mul-at
 mul-at c = search needs

@@ -1,0 +1,6 @@
+pub mod Visiting
+pub mod Walking
+pub mod Linking
+pub mod Call
+pub mod Searching
+pub mod Reaching

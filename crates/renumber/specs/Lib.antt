@@ -1,0 +1,4 @@
+pub mod Writing
+pub mod Renumber
+pub mod Map
+pub mod Meaning
