@@ -122,8 +122,8 @@ fn made(
     if (40 <= call) & (call < 60) {
         return build_calls::run(call, arena, scalars, middle, large);
     }
-    if call == 60 {
-        return cone_calls::run(arena, scalars, small, middle);
+    if (call == 60) | (call == 61) {
+        return cone_calls::run(call, arena, scalars, small, middle, large);
     }
     if (90 <= call) & (call < 93) {
         return ternary_calls::run(call, arena, scalars, small, inputs, state, values);
