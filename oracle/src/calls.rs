@@ -3,23 +3,30 @@
 
 mod build;
 pub mod check;
+pub mod clauses;
 pub mod cones;
 mod edges;
 mod gates;
 pub mod making;
+pub mod merge;
+pub mod property;
+pub mod rebuilding;
+pub mod reencode;
+pub mod refine;
 mod rows;
 pub mod ternary;
+pub mod unroll;
 
 use crate::case::{Case, Outcome};
 use crate::graph::{SLICES, WIDTH};
 use crate::rng::Rng;
 
-/// Slots of FORMAT.md: the list or map, the marks and the second slice of them (a stack), the flags
-/// that are written, and the bytes.
+/// Slots of FORMAT.md: the list or map, the marks and the second slice of them (a stack), the words
+/// that are written (flags, clauses, new-to-old, old bads), and the bytes.
 pub const LIST: usize = 18;
 pub const MARKS: usize = 19;
 pub const STACK: usize = 20;
-pub const FLAGS: usize = 21;
+pub const OUTPUT: usize = 21;
 pub const INPUT_BYTES: usize = 22;
 pub const STATE: usize = 23;
 pub const VALUES: usize = 24;
@@ -64,6 +71,19 @@ pub const fn graph_counts(slot: usize, scalar: usize) -> [Count; SLICES] {
     counts
 }
 
+/// The counts of two graphs that are lent one after the other.
+pub const fn two_graphs() -> [Count; 2 * SLICES] {
+    let [first, second] = [graph_counts(0, 0), graph_counts(SLICES, SLICES)];
+    let mut counts = [first[0]; 2 * SLICES];
+    let mut slice = 0;
+    while slice < SLICES {
+        counts[slice] = first[slice];
+        counts[SLICES + slice] = second[slice];
+        slice += 1;
+    }
+    counts
+}
+
 pub fn all() -> impl Iterator<Item = &'static Call> {
     edges::CALLS
         .iter()
@@ -72,7 +92,13 @@ pub fn all() -> impl Iterator<Item = &'static Call> {
         .chain(build::CALLS)
         .chain(gates::CALLS)
         .chain(cones::CALLS)
+        .chain(merge::CALLS)
+        .chain(reencode::CALLS)
+        .chain(refine::CALLS)
+        .chain(unroll::CALLS)
+        .chain(property::CALLS)
         .chain(ternary::CALLS)
+        .chain(clauses::CALLS)
 }
 
 /// The calls of a list of numbers such as `1,2,51`, in the order of FORMAT.md; `all` is all.

@@ -17,7 +17,7 @@ const TRIES: usize = 2_000;
 const SHOWN: usize = 600;
 
 /// Of each call, how many cases had each answer.
-type Tally = BTreeMap<u64, [u64; 6]>;
+pub type Tally = BTreeMap<u64, [u64; 6]>;
 
 /// What was expected of a case and what the program wrote.
 struct Difference<'a> {
@@ -47,7 +47,8 @@ pub fn compare(
     Ok(same)
 }
 
-fn compare_cases(program: &Program, cases: &[Case], tally: &mut Tally) -> io::Result<bool> {
+/// True where the program answers all of them as expected; they are tallied.
+pub fn compare_cases(program: &Program, cases: &[Case], tally: &mut Tally) -> io::Result<bool> {
     let run = program.run("cases", &script(cases))?;
     if let Some(at) = first_difference(cases, &run.lines, tally) {
         report(program, cases, at, &run)?;
@@ -74,7 +75,7 @@ pub fn random_case(call: &Call, seed: u64, round: u64) -> Case {
     case
 }
 
-fn script(cases: &[Case]) -> String {
+pub fn script(cases: &[Case]) -> String {
     let mut script = String::new();
     for case in cases {
         case.write(&mut script);
@@ -102,7 +103,7 @@ fn first_difference(cases: &[Case], mut lines: &[String], tally: &mut Tally) -> 
 }
 
 /// "one line for each slot given", after the first.
-fn lines_of(case: &Case) -> usize {
+pub fn lines_of(case: &Case) -> usize {
     1 + case.slots.len()
 }
 
@@ -216,13 +217,13 @@ fn shown(line: &str) -> String {
     }
 }
 
-fn print_tally(calls: &[&Call], tally: &Tally) {
-    println!("{:32}{:>9}{:>9}", "call", "cases", "done");
+pub fn print_tally(calls: &[&Call], tally: &Tally) {
+    println!("{:36}{:>9}{:>9}", "call", "cases", "done");
     for call in calls {
         let counts = tally.get(&call.number).copied().unwrap_or_default();
         let cases: u64 = counts.iter().sum();
         let refused = (1..counts.len()).filter(|&number| counts[number] > 0);
         let refused: String = refused.map(|n| format!("  {n}: {}", counts[n])).collect();
-        println!("{:32}{cases:9}{:9}{refused}", call.name, counts[0]);
+        println!("{:36}{cases:9}{:9}{refused}", call.name, counts[0]);
     }
 }

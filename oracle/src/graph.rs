@@ -123,6 +123,23 @@ impl Lent {
         std::array::from_fn(|part| self.words[LATCHES][3 * i + part])
     }
 
+    /// Input, next and init of every latch that is counted.
+    pub fn latches(&self) -> impl Iterator<Item = [u32; 3]> {
+        (0..self.counted(LATCHES)).map(|i| self.latch(i))
+    }
+
+    /// "A leaf in neither list is an orphan": those of a well-formed graph.
+    pub fn orphans(&self) -> Vec<u32> {
+        let mut listed = vec![false; self.counted(ROWS)];
+        let inputs = self.list(INPUTS).iter().copied();
+        for leaf in inputs.chain(self.latches().map(|[input, ..]| input)) {
+            listed[leaf as usize] = true;
+        }
+        let is_orphan = |&id: &usize| self.kind(id) == Some(Kind::Leaf) && !listed[id];
+        let orphans = (0..self.counted(ROWS)).filter(is_orphan);
+        orphans.map(|id| id as u32).collect()
+    }
+
     /// The counted words of a list of one word an entry.
     pub fn list(&self, slice: usize) -> &[u32] {
         &self.words[slice][..self.counted(slice)]

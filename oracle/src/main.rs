@@ -6,18 +6,23 @@ mod case;
 mod compare;
 mod construct;
 mod damaged;
+mod exhaust;
 mod graph;
+mod patterns;
 mod program;
 mod refuse;
 mod rng;
+mod rooms;
 mod sample;
 mod shapes;
 mod shrink;
+mod solve;
 mod tables;
 mod wellformed;
 
 use calls::Call;
 use program::Program;
+use solve::Solver;
 use std::ffi::OsString;
 use std::io;
 use std::path::{Path, PathBuf};
@@ -25,6 +30,8 @@ use std::process::ExitCode;
 
 /// CALLS are numbers with a comma between them, or `all`.
 const USAGE: &str = "oracle compare COUNT SEED CALLS FOLDER PROGRAM [ARGUMENT]...
+oracle exhaust EVERY FOLDER PROGRAM [ARGUMENT]...
+oracle solve COUNT SEED SOLVER FOLDER PROGRAM [ARGUMENT]...
 oracle sample write CALLS FOLDER
 oracle sample check CALLS FOLDER";
 
@@ -51,13 +58,27 @@ fn run(arguments: &[OsString]) -> Option<io::Result<bool>> {
         .map(|word| word.to_str().unwrap_or(""))
         .collect();
     match words.as_slice() {
-        ["compare", count, seed, calls, folder, _, ..] => {
-            let program = Program {
-                command: arguments[5..].to_vec(),
+        ["compare", count, seed, calls, _, _, ..] => {
+            let program = program(&arguments[4..]);
+            let (count, seed) = (count.parse().ok()?, seed.parse().ok()?);
+            Some(chosen(calls).and_then(|c| compare::compare(&program, count, seed, &c)))
+        }
+        ["exhaust", every, _, _, ..] => {
+            let every = every.parse().ok().filter(|&every| every > 0)?;
+            Some(exhaust::exhaust(&program(&arguments[2..]), every))
+        }
+        ["solve", count, seed, _, folder, _, ..] => {
+            let solver = Solver {
+                program: arguments[3].clone(),
                 folder: PathBuf::from(folder),
             };
             let (count, seed) = (count.parse().ok()?, seed.parse().ok()?);
-            Some(chosen(calls).and_then(|c| compare::compare(&program, count, seed, &c)))
+            Some(solve::solve(
+                &program(&arguments[4..]),
+                &solver,
+                count,
+                seed,
+            ))
         }
         ["sample", what, calls, folder] => {
             let folder = Path::new(folder);
@@ -68,6 +89,14 @@ fn run(arguments: &[OsString]) -> Option<io::Result<bool>> {
             }
         }
         _ => None,
+    }
+}
+
+/// The folder, then the program and its arguments.
+fn program(arguments: &[OsString]) -> Program {
+    Program {
+        command: arguments[1..].to_vec(),
+        folder: PathBuf::from(&arguments[0]),
     }
 }
 

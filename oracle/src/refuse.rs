@@ -43,6 +43,11 @@ pub fn bad_list(graph: &Lent, list: usize) -> bool {
     graph.room(list) > MOST_ENTRIES || graph.counts[list] > graph.room(list) as u64
 }
 
+/// Answer 1 for an output graph, which is lent as room alone: "a limit passed by rows or a list".
+pub fn bad_room(room: &Lent) -> bool {
+    room.room(ROWS) > MOST_ROWS || (INPUTS..SLICES).any(|list| room.room(list) > MOST_ENTRIES)
+}
+
 /// Answer 1 for a list that is an argument, which is counted by its length.
 pub fn too_long(list: &[u32]) -> bool {
     list.len() > MOST_ENTRIES
@@ -51,6 +56,11 @@ pub fn too_long(list: &[u32]) -> bool {
 /// Answer 1 for a buffer: "work marks, flags or value buffers shorter than the used rows".
 pub fn short(buffer: &[u32], used: u64) -> bool {
     (buffer.len() as u64) < used
+}
+
+/// Has the graph itself no answer 1, 2 or 3?
+pub fn is_sound(graph: &Lent) -> bool {
+    !bad_sizes(graph) && bad_contents(graph).is_none()
 }
 
 /// Answers 2 and 3, of a graph that has no answer 1.

@@ -8,19 +8,24 @@ use crate::wellformed::{self, Marked, Size};
 
 /// Mostly well-formed.
 pub fn marked(rng: &mut Rng) -> Marked {
-    let mut marked = if rng.one_in(2) {
-        let size = Size::any(rng);
-        wellformed::marked(rng, size)
-    } else {
-        let latches = number_of_latches(rng);
-        let graph = chains(rng, latches);
-        let marks = wellformed::buffer(rng, graph.counted(ROWS));
-        (graph, marks)
-    };
+    let graph = whole(rng);
+    let marks = wellformed::buffer(rng, graph.counted(ROWS));
+    let mut marked = (graph, marks);
     if rng.one_in(4) {
         damaged::damage(rng, &mut marked);
     }
     marked
+}
+
+/// Well-formed, of any size.
+pub fn whole(rng: &mut Rng) -> Lent {
+    if rng.one_in(2) {
+        let size = Size::any(rng);
+        wellformed::graph(rng, size)
+    } else {
+        let latches = number_of_latches(rng);
+        chains(rng, latches)
+    }
 }
 
 /// Mostly few, rarely thousands.
@@ -54,18 +59,18 @@ pub fn chains(rng: &mut Rng, latches: usize) -> Lent {
     graph
 }
 
-fn push_row(graph: &mut Lent, row: [u32; 2]) -> u32 {
+pub fn push_row(graph: &mut Lent, row: [u32; 2]) -> u32 {
     let id = graph.room(ROWS) as u32;
     graph.words[ROWS].extend(row);
     id
 }
 
 /// Any edge of a row, complemented or not.
-fn edge_of(rng: &mut Rng, id: u32) -> u32 {
+pub fn edge_of(rng: &mut Rng, id: u32) -> u32 {
     2 * id + rng.below(2) as u32
 }
 
-fn any_edge(rng: &mut Rng, graph: &Lent) -> u32 {
+pub fn any_edge(rng: &mut Rng, graph: &Lent) -> u32 {
     wellformed::edge(rng, graph.room(ROWS))
 }
 

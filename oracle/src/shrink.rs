@@ -1,6 +1,6 @@
 //! Makes a case that fails smaller while it still fails.
 
-use crate::calls::{self, Call, INPUT_BYTES, STATE, VALUES};
+use crate::calls::{self, Call, Count, INPUT_BYTES, STATE, VALUES};
 use crate::case::Case;
 use crate::graph::{EDGES, ENDS, INPUTS, LATCHES, ROW_0, ROWS, SLICES};
 use std::ops::Range;
@@ -66,24 +66,26 @@ impl Shrinker<'_> {
         taken
     }
 
+    /// Of two graphs that are counted the same entries first: one may have to be a part of the other.
     fn drop_entries(&mut self, at: usize, parts: usize) {
         let slot = self.best.slots[at].number;
-        let count = self.call.counts.iter().find(|count| count.slot == slot);
+        let counts = self.call.counts;
+        let count = counts.iter().find(|count| count.slot == slot);
+        let twin = counts.iter().find(|count| count.slot == twin(slot));
         let width = count.map_or(1, |count| count.width);
         let words = self.best.slots[at].words.len();
         self.attempt(without_words(&self.best, at, words - words % width..words));
         for range in ranges(words / width, parts) {
             let words = range.start * width..range.end * width;
             let plain = without_words(&self.best, at, words);
-            let renumbered = count.map(|count| {
-                let mut case = plain.clone();
-                lower_count(&mut case.scalars[count.scalar], &range);
-                renumber(&mut case, slot, &range, self.call);
-                without_bytes(case, slot, &range)
-            });
-            let taken = renumbered.is_some_and(|case| self.attempt(case));
-            if !taken {
-                self.attempt(plain);
+            let counted = count.map(|count| without_entries(&self.best, count, &range, self.call));
+            let both = counted.as_ref().zip(twin);
+            let both = both.map(|(case, twin)| without_entries(case, twin, &range, self.call));
+            let candidates = [both, counted, Some(plain)].into_iter().flatten();
+            for candidate in candidates {
+                if self.attempt(candidate) {
+                    break;
+                }
             }
         }
     }
@@ -125,6 +127,24 @@ fn without_words(case: &Case, at: usize, words: Range<usize>) -> Case {
     let end = words.end.min(list.len());
     list.drain(words.start.min(end)..end);
     case
+}
+
+/// The same slice of the other graph.
+fn twin(slot: usize) -> usize {
+    match slot {
+        slot if slot < SLICES => slot + SLICES,
+        slot => slot - SLICES,
+    }
+}
+
+/// Without counted entries and what goes with them.
+fn without_entries(case: &Case, count: &Count, dropped: &Range<usize>, call: &Call) -> Case {
+    let words = dropped.start * count.width..dropped.end * count.width;
+    let at = case.slots.iter().position(|slot| slot.number == count.slot);
+    let mut case = at.map_or_else(|| case.clone(), |at| without_words(case, at, words));
+    lower_count(&mut case.scalars[count.scalar], dropped);
+    renumber(&mut case, count.slot, dropped, call);
+    without_bytes(case, count.slot, dropped)
 }
 
 /// Without the bytes of the dropped inputs or latches.
@@ -223,8 +243,8 @@ fn renumber_ids(slice: usize, words: &mut [u32], dropped: &Range<usize>) {
 mod tests {
     use super::*;
     use crate::calls::ternary::{self, Lending};
-    use crate::calls::{FLAGS, LIST, check, cones, making};
-    use crate::graph::{LEAF, Lent, NONE};
+    use crate::calls::{LIST, OUTPUT, check, clauses, cones, making, merge, unroll};
+    use crate::graph::{LEAF, Lent, NONE, OUTPUTS};
 
     fn expected(case: &Case) -> crate::case::Answer {
         (calls::of(case).expected)(case).answer
@@ -281,7 +301,7 @@ mod tests {
         // a latch is crossed
         let mut fails = |case: &Case| {
             let outcome = (calls::of(case).expected)(case);
-            let mut flags = outcome.slots.iter().filter(|slot| slot.number == FLAGS);
+            let mut flags = outcome.slots.iter().filter(|slot| slot.number == OUTPUT);
             let flagged = |words: &[u32]| words.iter().filter(|&&word| word == 1).count();
             outcome.answer.number == 0 && flags.any(|slot| flagged(&slot.words) >= 3)
         };
@@ -340,5 +360,94 @@ mod tests {
         let smallest = shrink(&case, 2_000, &mut fails);
         assert!(fails(&smallest));
         assert!(smallest.words() <= 2, "{smallest:?}");
+    }
+
+    /// Gates 31 to 33 of 40 rows are an exclusive or of leaves 9 and 20.
+    #[test]
+    fn clauses_shrink_with_their_rows() {
+        let mut graph = Lent::new();
+        graph.words[ROWS].extend(LEAF.repeat(30));
+        graph.words[ROWS].extend([18, 41, 19, 40, 63, 65]);
+        graph.words[ROWS].extend([66, 4].repeat(6));
+        graph.words[OUTPUTS] = vec![70, 67, 2, 78];
+        graph.count_all();
+        let case = clauses::case(&graph, 1, vec![7; 200], vec![7; 50]);
+        // a shortcut is taken: a clause of the last gate has three literals and begins with its
+        // complement
+        let mut fails = |case: &Case| {
+            let outcome = (calls::of(case).expected)(case);
+            let mut output = outcome.slots.iter().filter(|slot| slot.number == OUTPUT);
+            let is_taken = |words: &[u32]| {
+                let words = &words[..outcome.results[0] as usize];
+                let clauses = clauses::split(words).expect("the clauses are whole");
+                clauses.iter().any(|c| c.len() == 3 && c[0] % 2 == 1)
+            };
+            output.any(|slot| is_taken(&slot.words))
+        };
+        assert!(fails(&case));
+        let smallest = shrink(&case, 2_000, &mut fails);
+        assert!(fails(&smallest));
+        // six rows, their marks, an output, and the clauses of four gates
+        assert!(smallest.words() <= 12 + 6 + 1 + 38, "{smallest:?}");
+    }
+
+    /// Graphs of 30 rows, of which the second has an init of a row.
+    #[test]
+    fn two_graphs_shrink() {
+        let mut graph = Lent::new();
+        graph.words[ROWS].extend(LEAF.repeat(20));
+        graph.words[ROWS].extend([6, 41].repeat(9));
+        graph.words[INPUTS] = vec![4, 6, 8];
+        graph.words[LATCHES] = vec![3, 50, NONE, 5, 40, 55];
+        graph.words[EDGES] = vec![2, 30, 4];
+        graph.words[ENDS] = vec![1, 3];
+        graph.count_all();
+        let mut own = graph.clone();
+        for (slice, words) in graph.words.iter().enumerate() {
+            own.words[slice].extend(words);
+        }
+        let case = merge::case(&own, &graph, vec![7; 35]);
+        let mut fails = |case: &Case| {
+            let outcome = (calls::of(case).expected)(case);
+            let other = Lent::of_case(case, SLICES, SLICES);
+            let mut inits = other.latches().map(|[_, _, init]| init);
+            outcome.answer.number == 0
+                && case.scalar(ROWS) > 1
+                && inits.any(|init| init > 1 && init != NONE)
+        };
+        assert!(fails(&case));
+        let smallest = shrink(&case, 2_000, &mut fails);
+        assert!(fails(&smallest));
+        // two rows and three, room for two of them, a latch and room for it, three marks
+        assert!(smallest.words() <= 4 + 6 + 4 + 3 + 3 + 3, "{smallest:?}");
+    }
+
+    /// The first rows of the target are those of the other graph: rows go from both at once.
+    #[test]
+    fn a_target_shrinks_with_what_it_is_unrolled_by() {
+        let mut graph = Lent::new();
+        graph.words[ROWS].extend(LEAF.repeat(20));
+        graph.words[ROWS].extend([[6, 41], [38, 7], [44, 42]].as_flattened());
+        graph.words[INPUTS] = (1..=18).collect();
+        graph.words[LATCHES] = vec![19, 46, NONE, 20, 3, 1];
+        graph.words[OUTPUTS] = vec![46, 8];
+        graph.count_all();
+        let mut target = graph.clone();
+        for words in &mut target.words {
+            words.extend(vec![7; words.len()]);
+        }
+        let case = unroll::case(&target, &graph, vec![7; 30]);
+        // a gate is built
+        let mut fails = |case: &Case| {
+            let outcome = (calls::of(case).expected)(case);
+            let rows = outcome.results[ROWS] - case.scalar(ROWS);
+            let inputs = outcome.results[INPUTS] - case.scalar(INPUTS);
+            outcome.answer.number == 0 && rows > inputs
+        };
+        assert!(fails(&case));
+        let smallest = shrink(&case, 2_000, &mut fails);
+        assert!(fails(&smallest));
+        // four rows each, of which two leaves, room for their copies, two inputs and four marks
+        assert!(smallest.words() <= 8 + 8 + 6 + 2 + 4, "{smallest:?}");
     }
 }

@@ -1,6 +1,7 @@
 // Replays a script of cases from standard input, and writes what each call answers and leaves.
 mod build_calls;
 mod check_call;
+mod cnf_call;
 mod cone_calls;
 mod edges;
 mod row_calls;
@@ -127,6 +128,9 @@ fn made(
     }
     if (90 <= call) & (call < 93) {
         return ternary_calls::run(call, arena, scalars, small, inputs, state, values);
+    }
+    if call == 100 {
+        return cnf_call::run(arena, scalars, small, large);
     }
     outcome::unknown()
 }

@@ -57,6 +57,16 @@ pub fn of_pair(a: Answer, count: usize, first: u32, second: u32) -> Outcome {
     }
 }
 
+// An answer with one number.
+pub fn of_size(a: Answer, size: usize) -> Outcome {
+    Outcome {
+        is_known: true,
+        answer: edge::told(a),
+        count: 1,
+        results: [size as u64, 0, 0, 0, 0, 0, 0, 0, 0, 0, 0, 0],
+    }
+}
+
 // An answer with the nine counts, and then `more` of one word.
 pub fn of_counts(a: Answer, n: Counts, more: usize, word: u32) -> Outcome {
     let lists = [

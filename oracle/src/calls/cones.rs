@@ -1,7 +1,7 @@
 //! Calls 60 and 61: the cones.
 
 use super::{
-    Call, Count, FLAGS, LIST, MARKS, STACK, clear, given_otherwise, graph_counts, shorten,
+    Call, Count, LIST, MARKS, OUTPUT as FLAGS, STACK, clear, given_otherwise, graph_counts, shorten,
 };
 use crate::case::{Answer, Case, Outcome};
 use crate::graph::{BADS, LATCHES, Lent, NONE, OUTPUTS, ROWS, SLICES, edge, to_aig};

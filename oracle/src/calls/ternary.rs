@@ -6,7 +6,7 @@ use super::{
 use crate::case::{Answer, Case, Outcome};
 use crate::damaged::hostile_count;
 use crate::graph::{INPUTS, LATCHES, Lent, ROWS, SLICES, edge, to_aig};
-use crate::refuse::{bad_contents, bad_sizes, refusal_with, short};
+use crate::refuse::{is_sound, refusal_with, short};
 use crate::rng::Rng;
 use crate::shapes;
 use crate::tables;
@@ -124,8 +124,7 @@ fn codes(rng: &mut Rng, length: usize) -> Vec<u32> {
 /// Any codes, or what the crate has after some steps from any codes.
 fn random_state(rng: &mut Rng, graph: &Lent) -> Vec<u32> {
     let state = codes(rng, graph.counted(LATCHES));
-    let is_sound = !bad_sizes(graph) && bad_contents(graph).is_none();
-    if !is_sound || rng.below(5) < 3 {
+    if !is_sound(graph) || rng.below(5) < 3 {
         return state;
     }
     let steps = rng.between(1, STEPS);

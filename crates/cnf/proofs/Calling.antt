@@ -1,0 +1,156 @@
+-- Laws of the call: its steps, and what it answers and writes.
+-- Assumes nothing.
+use Prim.Native.Nat.{ℕ, _+_, _≤_, _<_}
+use native.Mathlib.Omega.{arith}
+use mathlib.Core.Path.{_≡_, refl, sym, ap, _∙_}
+use mathlib.Core.Bool.{Bool, true, false, cond, not}
+use mathlib.Core.List.{List, [], _∷_, _++_}
+use lib.ListN.{length, take, drop, replicate, take-append-drop, length-append, length-replicate}
+use lib.Seq.{sets, sets-eq, take-at}
+use lib.Dec.{eqb, leb}
+use borrow.Author.Tests.{eqb-true, le-leb, lt-leb}
+use Rattle.edge.specs.declared.answer.Answer.{Answer}
+use Rattle.edge.specs.declared.answer.Answer.the-variants.{Done, NoRoom}
+use Rattle.edge.specs.Answers.{badSizes, done, noRoom, told, orElse}
+use Rattle.edge.proofs.Answers.{test-done, test-refused, goes-past}
+use Rattle.graph.specs.Graph.{Lent, Sized, sizesRight}
+use Rattle.graph.specs.Check.{CheckSeen, checkSeen, checkCall, contents, cleared}
+use Rattle.graph.specs.WellFormed.{WellFormed}
+use Rattle.graph.proofs.WellFormed.{exact}
+use Rattle.roots.specs.Marking.{markEdges}
+use Rattle.roots.specs.Roots.{RootsFit, rootsOf}
+use Rattle.roots.proofs.Flagging.{cleared-all}
+use Rattle.roots.proofs.Marking.{edges-long}
+use Rattle.roots.proofs.Roots.{roots-known}
+use Rattle.shapes.specs.Shapes.{unit, words}
+use Rattle.cnf.specs.Clauses.{walk, clausesIn, cnfOf}
+use Rattle.cnf.specs.Call.{cnfAnswer, cnfSeen, writtenOver, cnfCall, Ready}
+use Rattle.shapes.proofs.Writing.{sets-both}
+
+-- a run of stores from the start
+pub sets-over : (l ws : List ℕ) → length ws ≤ length l → sets l 0 ws ≡ writtenOver ws l
+sets-over l ws h = sets-eq ws l 0 (omega arith) ∙ (let e : 0 + length ws ≡ length ws = omega arith in ap (λ (n : ℕ). ws ++ drop n l) e)
+
+-- ---- the steps: the roots are marked, the walk is made, the marks are cleared
+module _ (shortcuts : Bool) (rows roots marks : List ℕ) (r : Ready rows (length marks) roots marks) {marked : List ℕ} (p : marked ≡ markEdges roots marks) where
+  pub marked-long : length marked ≡ length marks
+  marked-long = ap length p ∙ edges-long roots marks
+
+  started : marked ≡ markEdges roots (replicate (length marks) 0)
+  started = p ∙ ap (markEdges roots) (r .clear)
+
+  -- the words after the unit clause
+  rest : List ℕ
+  rest = words (walk shortcuts rows (length marked) marked)
+
+  whole : words (clausesIn shortcuts rows (length marks) roots) ≡ 1 ∷ (1 ∷ rest)
+  unfolding rest clausesIn words
+  whole = rw (marked-long, started)
+
+  pub number : {n : ℕ} → n ≡ length (words (walk shortcuts rows (length marked) marked)) → 2 + n ≡ length (words (clausesIn shortcuts rows (length marks) roots))
+  unfolding rest
+  number e = omega (arith, ap length whole)
+
+  pub written : (clauses : List ℕ) {one two : List ℕ} → length (words (clausesIn shortcuts rows (length marks) roots)) ≤ length clauses
+      → one ≡ sets clauses 0 (words (unit ∷ [])) → two ≡ sets one 2 (words (walk shortcuts rows (length marked) marked))
+      → two ≡ writtenOver (words (clausesIn shortcuts rows (length marks) roots)) clauses
+  unfolding rest words
+  written clauses h a b = b ∙ (rw a (sym (sets-both clauses (1 ∷ 1 ∷ []) rest 0)) ∙ (ap (sets clauses 0) (sym whole) ∙ sets-over clauses (words (clausesIn shortcuts rows (length marks) roots)) h))
+
+  -- the marks are as before
+  pub back : (walked : List ℕ) {after : List ℕ} → length walked ≡ length marked → after ≡ cleared (length walked) walked → after ≡ marks
+  back walked l e = e ∙ (cleared-all walked (length walked) refl ∙ (ap (λ (n : ℕ). replicate n 0) (l ∙ marked-long) ∙ sym (r .clear)))
+
+-- ---- the call, where the check has answered a and left the marks `after`, and d says whether it is done
+module _ (g : Lent) (shortcuts : Bool) (clauses marks : List ℕ) (a : Answer) {after : List ℕ} (seen : checkSeen a after ≡ checkCall g marks) {d : Bool} (test : d ≡ eqb (told a .number) 0) where
+  given : told a ≡ checkCall g marks .given
+  given = ap (λ (s : CheckSeen). s .given) seen
+
+  kept : after ≡ checkCall g marks .marks
+  kept = ap (λ (s : CheckSeen). s .marks) seen
+
+  pub cnf-refused : not d ≡ true → cnfSeen (record { answer = a; words = 0 }) clauses after ≡ cnfCall g shortcuts clauses marks
+  unfolding cnfCall cnfAnswer orElse
+  cnf-refused h = rw (test-refused given test h, given, kept) (rw (test-refused given test h))
+
+  module _ (h : not d ≡ false) where
+    zero-number : checkCall g marks .given .number ≡ 0
+    zero-number = eqb-true (checkCall g marks .given .number) 0 (test-done given test h)
+
+    right : Sized g (length marks) × WellFormed g
+    right = exact g marks .accepted zero-number
+
+    abbrev used : ℕ
+    used = g .counts .rows
+
+    after-cleared : after ≡ cleared used marks
+    unfolding checkCall
+    after-cleared = kept ∙ go (sizesRight g (length marks)) zero-number
+      where
+        go : (t : Bool) → cond {A = CheckSeen} t (record { given = contents g; marks = cleared used marks }) (record { given = badSizes; marks = marks }) .given .number ≡ 0
+            → cond {A = CheckSeen} t (record { given = contents g; marks = cleared used marks }) (record { given = badSizes; marks = marks }) .marks ≡ cleared used marks
+        go true z = refl
+        go false z = absurd (omega arith)
+
+    part-zero : take used after ≡ replicate used 0
+    part-zero = rw after-cleared (take-at (replicate used 0) (drop used marks) used (length-replicate used 0))
+
+    -- the marks of the used rows are lent on as a part
+    pub part-long : length (take used after) ≡ used
+    part-long = ap length part-zero ∙ length-replicate used 0
+
+    pub marks-long : used ≤ length after
+    marks-long = rw after-cleared (rw (length-append (replicate used 0) (drop used marks), length-replicate {A = ℕ} used 0) (omega arith))
+
+    pub roots-fit : RootsFit (g .latches) (g .constraints) (g .bads) (g .outputs) (g .edges) (g .fairness) (g .counts)
+    roots-fit = roots-known g (length marks) (right .0) (right .1) .fit
+
+    pub ready : Ready (g .rows) (length (take used after)) (rootsOf g) (take used after)
+    ready =
+        let s = right .0 in
+        rw part-long
+        (record {
+          rows-there = omega (arith, s .rows .fit .within);
+          rows-few = omega (arith, s .rows .fit .within, s .rows .fit .limited);
+          roots-used = roots-known g (length marks) s (right .1) .used;
+          clear = part-zero;
+        })
+
+    -- the part comes back as it was, so that the marks are as the check left them
+    module _ {part : List ℕ} (same : part ≡ take used after) where
+      abbrev again : List ℕ
+      again = part ++ drop used after
+
+      put-back : again ≡ after
+      put-back = rw same (take-append-drop used after)
+
+      pub again-part : length (take used again) ≡ used
+      again-part = rw put-back part-long
+
+      pub again-long : used ≤ length again
+      again-long = rw put-back marks-long
+
+      pub again-ready : Ready (g .rows) (length (take used again)) (rootsOf g) (take used again)
+      again-ready = rw put-back ready
+
+      module _ {need : ℕ} (counted : need ≡ length (words (clausesIn shortcuts (g .rows) (length (take used after)) (rootsOf g)))) where
+        need-is : need ≡ length (words (cnfOf shortcuts g))
+        need-is = counted ∙ ap (λ (n : ℕ). length (words (clausesIn shortcuts (g .rows) n (rootsOf g)))) part-long
+
+        answer-is : cnfAnswer g shortcuts (length clauses) marks ≡ cond (leb (length (words (cnfOf shortcuts g))) (length clauses)) done noRoom
+        unfolding cnfAnswer
+        answer-is = goes-past (checkCall g marks .given) (cond (leb (length (words (cnfOf shortcuts g))) (length clauses)) done noRoom) zero-number
+
+        pub cnf-short : length clauses < need → cnfSeen (record { answer = NoRoom; words = 0 }) clauses again ≡ cnfCall g shortcuts clauses marks
+        unfolding cnfCall
+        cnf-short l = rw (put-back, answer-is, lt-leb (length (words (cnfOf shortcuts g))) (length clauses) (omega (arith, need-is)), kept)
+
+        module _ (fits : need ≤ length clauses) where
+          pub again-fits : length (words (clausesIn shortcuts (g .rows) (length (take used again)) (rootsOf g))) ≤ length clauses
+          again-fits = rw again-part (omega (arith, need-is))
+
+          pub cnf-done : {part′ out : List ℕ} → part′ ≡ take used again → out ≡ writtenOver (words (clausesIn shortcuts (g .rows) (length (take used again)) (rootsOf g))) clauses
+              → cnfSeen (record { answer = Done; words = need }) out (part′ ++ drop used again) ≡ cnfCall g shortcuts clauses marks
+          unfolding cnfCall
+          cnf-done p w =
+              rw (answer-is, le-leb (length (words (cnfOf shortcuts g))) (length clauses) (omega (arith, need-is)), w, again-part, need-is, p, take-append-drop used again, put-back, kept)

@@ -1,0 +1,88 @@
+-- Clauses read back from their words are the clauses; and how many words there are.
+-- Assumes nothing.
+use Prim.Native.Nat.{ℕ, zero, suc, _+_, _*_, _≤_}
+use native.Mathlib.Omega.{arith}
+use mathlib.Core.Bool.{Bool, true, false, cond, _&&_}
+use mathlib.Core.Path.{_≡_, refl, sym, ap, ap₂, _∙_}
+use mathlib.Core.List.{List, [], _∷_, _++_, append-assoc}
+use lib.ListN.{length, getD, replicate, length-append}
+use lib.Seq.{take-append-seam, drop-append-seam}
+use lib.Dec.{eqb}
+use Rattle.rows.specs.Rows.{word0, word1, gateAt}
+use Rattle.roots.specs.Marking.{markEdges}
+use Rattle.shapes.specs.declared.Shape.{Shape}
+use Rattle.shapes.specs.declared.Shape.the-variants.{Unwritten, Plain, Xor, Ite}
+use Rattle.shapes.specs.Shapes.{shapeOf, operands, clausesOf, words}
+use Rattle.cnf.specs.Clauses.{writtenAt, walk, clausesIn}
+use Rattle.cnf.specs.Decode.{firstClauses, decoded}
+use Rattle.cnf.specs.Meaning.{gatesBelow}
+
+-- ---- back from the words
+read-back : (n : ℕ) (cs : List (List ℕ)) → length cs ≤ n → firstClauses n (words cs) ≡ cs
+unfolding firstClauses words
+read-back zero [] l = refl
+read-back zero (c ∷ cs) l = absurd (omega arith)
+read-back (suc n) [] l = refl
+read-back (suc n) (c ∷ cs) l = ap₂ _∷_ (take-append-seam c (words cs)) (ap (firstClauses n) (drop-append-seam c (words cs)) ∙ read-back n cs (omega arith))
+
+a-word-each : (cs : List (List ℕ)) → length cs ≤ length (words cs)
+unfolding words
+a-word-each [] = omega arith
+a-word-each (c ∷ cs) = omega (arith, a-word-each cs, length-append c (words cs))
+
+pub decoded-words : (cs : List (List ℕ)) → decoded (words cs) ≡ cs
+decoded-words cs = read-back (length (words cs)) cs (a-word-each cs)
+
+-- ---- how many words
+pub words-both : (cs ds : List (List ℕ)) → words (cs ++ ds) ≡ words cs ++ words ds
+unfolding words
+words-both [] ds = refl
+words-both (c ∷ cs) ds = ap (λ (ws : List ℕ). length c ∷ ws) (rw (words-both cs ds) (sym (append-assoc c (words cs) (words ds))))
+
+-- a gate's clauses are at most 16 words, and the gate's literal does not matter
+pub same-size : (g : ℕ) (s : Shape) → length (words (clausesOf g s)) ≡ length (words (clausesOf 0 s))
+unfolding words clausesOf
+same-size g Unwritten = refl
+same-size g (Plain a b) = refl
+same-size g (Xor a b) = refl
+same-size g (Ite c t e) = refl
+
+pub at-most-16 : (g : ℕ) (s : Shape) → length (words (clausesOf g s)) ≤ 16
+unfolding words clausesOf
+at-most-16 g Unwritten = omega arith
+at-most-16 g (Plain a b) = omega arith
+at-most-16 g (Xor a b) = omega arith
+at-most-16 g (Ite c t e) = omega arith
+
+row-few : (shortcuts : Bool) (rows : List ℕ) (i : ℕ) (marks : List ℕ) → length (words (clausesOf (2 * i) (writtenAt shortcuts rows i marks))) + 16 * gatesBelow rows i ≤ 16 * gatesBelow rows (suc i)
+unfolding writtenAt gatesBelow
+row-few shortcuts rows i marks = go (eqb (getD marks i 0) 1) (gateAt rows i)
+  where
+    s : Shape
+    s = shapeOf shortcuts rows (word0 rows i) (word1 rows i)
+
+    go : (m g : Bool) → length (words (clausesOf (2 * i) (cond (m && g) s Unwritten))) + 16 * gatesBelow rows i ≤ 16 * cond g (suc (gatesBelow rows i)) (gatesBelow rows i)
+    go true true = omega (arith, at-most-16 (2 * i) s)
+    go true false = unfold words clausesOf in omega arith
+    go false true = unfold words clausesOf in omega arith
+    go false false = unfold words clausesOf in omega arith
+
+pub walk-few : (shortcuts : Bool) (rows : List ℕ) (n : ℕ) (marks : List ℕ) → length (words (walk shortcuts rows n marks)) ≤ 16 * gatesBelow rows n
+unfolding walk
+walk-few shortcuts rows zero marks = unfold words in omega arith
+walk-few shortcuts rows (suc i) marks =
+    let s = writtenAt shortcuts rows i marks in
+    rw (words-both, length-append) (omega (arith, row-few shortcuts rows i marks, walk-few shortcuts rows i (markEdges (operands s) marks)))
+
+pub clauses-few : (shortcuts : Bool) (rows : List ℕ) (used : ℕ) (roots : List ℕ) → length (words (clausesIn shortcuts rows used roots)) ≤ 2 + 16 * gatesBelow rows used
+unfolding clausesIn words
+clauses-few shortcuts rows used roots = omega (arith, walk-few shortcuts rows used (markEdges roots (replicate used 0)))
+
+pub gates-few : (rows : List ℕ) (n : ℕ) → gatesBelow rows n ≤ n
+unfolding gatesBelow
+gates-few rows zero = omega arith
+gates-few rows (suc i) = go (gateAt rows i) (gates-few rows i)
+  where
+    go : (t : Bool) → gatesBelow rows i ≤ i → cond t (suc (gatesBelow rows i)) (gatesBelow rows i) ≤ suc i
+    go true h = omega arith
+    go false h = omega arith

@@ -1,0 +1,8 @@
+pub mod Booleans
+pub mod Fitting
+pub mod Sound
+pub mod Decoding
+pub mod Walking
+pub mod Calling
+pub mod Translating
+pub mod Examples

@@ -1,0 +1,5 @@
+pub mod Clauses
+pub mod Decode
+pub mod Call
+pub mod Meaning
+pub mod Examples
