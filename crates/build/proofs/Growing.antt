@@ -35,7 +35,7 @@ module _ (rows : List ℕ) (used a b : ℕ) (room : used + 1 ≤ rowsLent rows) 
   there : 2 * used + 2 ≤ length rows
   there = omega arith
 
-  row-kept : (k : ℕ) → k < 2 * used → getD (rowAdded rows used a b) k 0 ≡ getD rows k 0
+  pub row-kept : (k : ℕ) → k < 2 * used → getD (rowAdded rows used a b) k 0 ≡ getD rows k 0
   row-kept k l =
       rw (row-there rows used a b there)
       (getD-set-other (set rows (2 * used) a) (2 * used + 1) k b 0 (λ (e : k ≡ 2 * used + 1). omega arith)

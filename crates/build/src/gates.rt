@@ -51,7 +51,7 @@ fn second(a: u32, b: u32) -> u32
 }
 
 // Adds a gate: always a row.
-fn add_gate(rows: &mut [u32], used: usize, a: u32, b: u32) -> Grown
+pub fn add_gate(rows: &mut [u32], used: usize, a: u32, b: u32) -> Grown
     requires { ⌜ used ≤ stepLimit ⌝ }
     ensures { λ r. ⌜ stateOf (now (rows .exit)) r ≡ addGate (now (rows .entry)) used a b ⌝ }
 {

@@ -5,3 +5,4 @@ pub mod Sets
 pub mod Checked
 pub mod Listed
 pub mod WellFormed
+pub mod Pairing

@@ -18,12 +18,12 @@ use Rattle.graph.specs.Leaves.{member, freeLeaf}
 
 -- ---- members by their place
 -- x stands at a place of l
-record Stands (x : ℕ) (l : List ℕ) : Type 0 where
-  at : ℕ
-  within : at < length l
-  same : getD l at 0 ≡ x
+pub record Stands (x : ℕ) (l : List ℕ) : Type 0 where
+  pub at : ℕ
+  pub within : at < length l
+  pub same : getD l at 0 ≡ x
 
-stands : (x : ℕ) (l : List ℕ) → member x l ≡ true → Stands x l
+pub stands : (x : ℕ) (l : List ℕ) → member x l ≡ true → Stands x l
 unfolding member
 stands x [] h = absurd (false-true h)
 stands x (y ∷ l) h = ⊎-elim (λ e. here (eqb-true x y e)) (λ m. there (stands x l m)) (either {a = eqb x y} h)
@@ -34,7 +34,7 @@ stands x (y ∷ l) h = ⊎-elim (λ e. here (eqb-true x y e)) (λ m. there (stan
     there : Stands x l → Stands x (y ∷ l)
     there s = record { at = suc (s .at); within = omega (arith, s .within); same = s .same }
 
-is-member : (l : List ℕ) (k : ℕ) → k < length l → member (getD l k 0) l ≡ true
+pub is-member : (l : List ℕ) (k : ℕ) → k < length l → member (getD l k 0) l ≡ true
 unfolding member
 is-member [] k h = absurd (omega arith)
 is-member (y ∷ l) zero h = rw (eq-eqb y y refl)

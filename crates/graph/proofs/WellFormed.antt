@@ -37,7 +37,7 @@ fits-true : {count room limit : ℕ} → Fit count room limit → fits count roo
 unfolding fits
 fits-true {count} {room} {limit} f = rw (le-leb count room (f .within), le-leb room limit (f .limited))
 
-sizes-true : (g : Lent) (marks : ℕ) → Sized g marks → sizesRight g marks ≡ true
+pub sizes-true : (g : Lent) (marks : ℕ) → Sized g marks → sizesRight g marks ≡ true
 unfolding sizesRight rowsFit
 sizes-true g marks s =
     both-true (both-true (both-true (both-true (both-true (both-true (both-true (both-true (both-true

@@ -6,3 +6,4 @@ pub mod Justice
 pub mod Graph
 pub mod Check
 pub mod WellFormed
+pub mod Pair

@@ -7,7 +7,9 @@ pub mod lists;
 pub mod marks;
 pub mod search;
 mod sizes;
+mod two;
 
+pub use two::check_two;
 ghost use mathlib.Core.Path.{_≡_};
 ghost use Rattle.graph.specs.Graph.{lent};
 ghost use Rattle.graph.specs.Check.{checkSeen, checkCall};

@@ -1,3 +1,8 @@
 pub mod Writing
+pub mod Counting
 pub mod Mapping
+pub mod Fitting
+pub mod Entering
 pub mod Carrying
+pub mod Rowing
+pub mod Keeping

@@ -46,7 +46,7 @@ module _ (g : Lent) (marks : ℕ) (s : Sized g marks) (w : WellFormed g) where
 
 module _ (used : ℕ) (m : ℕ → ℕ) (map : List ℕ) (h : Holds used m map) where
   -- ---- what is written
-  renamed-by : (e : ℕ) → (e ≡ none) ⊎ (idOf e < used) → renamed (by map) e ≡ renamed m e
+  pub renamed-by : (e : ℕ) → (e ≡ none) ⊎ (idOf e < used) → renamed (by map) e ≡ renamed m e
   unfolding renamed
   renamed-by e (inl q) = rw (eq-eqb e none q)
   renamed-by e (inr l) = rw (h (idOf e) l)
@@ -56,7 +56,7 @@ module _ (used : ℕ) (m : ℕ → ℕ) (map : List ℕ) (h : Holds used m map) 
 
   latch-by : (l : Latch) → UsedLatch used l → renamedLatch (by map) l ≡ renamedLatch m l
   unfolding renamedLatch
-  latch-by l u = rw (h (l .input) (u .input), renamed-by (l .next) (inr (u .next)), renamed-by (l .init) (u .init))
+  latch-by l u = simp (h (l .input) (u .input), renamed-by (l .next) (inr (u .next)), renamed-by (l .init) (u .init))
 
   latches-by : (out : List ℕ) (at : ℕ) (latches : List ℕ) (n : ℕ) → ((j : ℕ) → j < n → UsedLatch used (latchAt latches j)) → latchesWritten (by map) out at latches n ≡ latchesWritten m out at latches n
   unfolding latchesWritten
@@ -82,7 +82,7 @@ module _ (used : ℕ) (m : ℕ → ℕ) (map : List ℕ) (h : Holds used m map) 
     pub known : (i : ℕ) → i < used → Known map i
     known i l = record { has = omega arith; small = rw (h i l) (small i l) }
 
-    mapped : (e : ℕ) → (e ≡ none) ⊎ (idOf e < used) → Mapped map e
+    pub mapped : (e : ℕ) → (e ≡ none) ⊎ (idOf e < used) → Mapped map e
     mapped e (inl q) n = absurd (n q)
     mapped e (inr l) n = known (idOf e) l
 

@@ -7,8 +7,8 @@ use native.Mathlib.Numerals.{add-one}
 use mathlib.Core.Path.{_≡_, refl, sym, ap, _∙_}
 use mathlib.Core.Logic.{⊎-elim}
 use mathlib.Core.List.{List}
-use lib.ListN.{length, getD, set, length-set}
-use lib.Seq.{getD-set-same, getD-set-other}
+use lib.ListN.{length, getD, set, drop, length-set}
+use lib.Seq.{getD-set-same, getD-set-other, drop-set-lt}
 use Rattle.graph.specs.declared.latch.Latch.{Latch}
 use Rattle.graph.specs.Latches.{latchAt, latchSet}
 use Rattle.renumber.specs.Writing.{written}
@@ -51,6 +51,11 @@ module _ (list : List ℕ) (at : ℕ) (f : ℕ → ℕ) where
   unfolding written
   written-after zero k l = refl
   written-after (suc n) k l = getD-set-other (written list at f n) (at + n) k (f n) 0 (λ e. absurd (omega arith)) ∙ written-after n k (omega arith)
+
+  pub written-drop : (n k : ℕ) → at + n ≤ k → drop k (written list at f n) ≡ drop k list
+  unfolding written
+  written-drop zero k l = refl
+  written-drop (suc n) k l = drop-set-lt k (written list at f n) (at + n) (f n) (omega arith) ∙ written-drop n k (omega arith)
 
 -- ---- latches
 pub latch-set-length : (latches : List ℕ) (i : ℕ) (l : Latch) → length (latchSet latches i l) ≡ length latches

@@ -1,15 +1,24 @@
 // Writing the lists of a graph anew, every edge and id by a map from old row numbers to new ones.
+pub mod output;
+
 ghost use mathlib.Core.Path.{_≡_};
 ghost use Prim.Native.Nat.{_+_, _*_, _≤_, _<_, _^_};
 ghost use lib.ListN.{length};
 ghost use Rattle.graph.specs.Latches.{latchWords};
 ghost use Rattle.renumber.specs.Writing.{written};
 ghost use Rattle.renumber.specs.Renumber.{renamed as renamedBy, renamedLatch, edgesOf, idsOf, endsOf, latchesWritten, lists, renumber, by, Known, Mapped, MappedLatch, IdsReady, EdgesReady, LatchesReady, EndsReady, ListsReady};
+use edge::Answer;
 use graph::Counts;
 use graph::latch::Latch;
 use graph::latch::latch_at;
 use graph::latch::write_latch;
 use rows::kinds::NONE;
+
+// What a rebuilding call answers, with the counts of the graph that it wrote. On a refusal the counts are as given.
+pub struct Rebuilt {
+    pub answer: Answer,
+    pub counts: Counts,
+}
 
 // The edge to the new number of its row, with its sign. The none word stays.
 pub fn renamed(e: u32, map: &[u32]) -> u32

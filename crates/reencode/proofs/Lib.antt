@@ -1,0 +1,12 @@
+pub mod Placing
+pub mod Turning
+pub mod Numbering
+pub mod Leaving
+pub mod Readying
+pub mod Call
+pub mod Standing
+pub mod Mapping
+pub mod Result
+pub mod Again
+pub mod Right
+pub mod Cases

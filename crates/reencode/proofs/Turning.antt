@@ -1,0 +1,55 @@
+-- Laws of the loops.
+-- Assumes nothing.
+use Prim.Native.Nat.{ℕ, suc, _+_, _<_}
+use native.Mathlib.Numerals.{add-one}
+use mathlib.Core.Path.{_≡_, refl, sym, ap, _∙_}
+use mathlib.Core.Bool.{Bool, true, false, cond, not}
+use mathlib.Core.List.{List}
+use lib.ListN.{set}
+use borrow.Author.Tests.{not-true, not-false}
+use Rattle.edge.specs.Edges.{idOf}
+use Rattle.rows.specs.Rows.{none, word0, word1, gateAt}
+use Rattle.rows.proofs.Laws.{gate-below}
+use Rattle.build.specs.declared.gates.Grown.{Grown}
+use Rattle.build.specs.Gates.{State, stateOf, rowAdded, addGate}
+use Rattle.renumber.specs.Renumber.{renamed, Known, Mapped}
+use Rattle.renumber.specs.Count.{countBelow}
+use Rattle.renumber.proofs.Counting.{count-more}
+use Rattle.reencode.specs.Rebuilding.{leavesAdded, gateAdded}
+
+-- ---- counting
+module _ (p : ℕ → Bool) (i : ℕ) {n after : ℕ} {t : Bool} (e : n ≡ countBelow p i) (q : t ≡ p i) where
+  pub count-taken : t ≡ true → after ≡ n + 1 → after ≡ countBelow p (i + 1)
+  count-taken h w = let g : p i ≡ true = sym q ∙ h in w ∙ (ap (λ (k : ℕ). k + 1) e ∙ sym (count-more p i ∙ rw g))
+
+  pub count-left : t ≡ false → after ≡ n → after ≡ countBelow p (i + 1)
+  count-left h w = let g : p i ≡ false = sym q ∙ h in w ∙ (e ∙ sym (count-more p i ∙ rw g))
+
+-- ---- leaves
+pub leaves-turn : (out : List ℕ) (i : ℕ) {now after : List ℕ} → now ≡ leavesAdded out i → after ≡ rowAdded now (i + 1) none 0 → after ≡ leavesAdded out (i + 1)
+unfolding leavesAdded
+leaves-turn out i e w = let s : i + 1 ≡ suc i = add-one i in w ∙ (ap (λ (x : List ℕ). rowAdded x (i + 1) none 0) e ∙ ap (λ (k : ℕ). leavesAdded out k) (sym s))
+
+-- ---- a gate
+module _ (rows : List ℕ) (i : ℕ) {t : Bool} (e : t ≡ gateAt rows i) where
+  gate-is : not t ≡ false → gateAt rows i ≡ true
+  gate-is h = sym e ∙ not-false t h
+
+  pub gate-mapped : not t ≡ false → (marks : List ℕ) → ((j : ℕ) → j < i → Known marks j) → Mapped marks (word0 rows i) × Mapped marks (word1 rows i)
+  gate-mapped h marks k =
+      let b = gate-below i (word0 rows i) (word1 rows i) (gate-is h) in
+      ((λ _. k (idOf (word0 rows i)) (b .0)), (λ _. k (idOf (word1 rows i)) (b .1)))
+
+  module _ (m : ℕ → ℕ) (k : ℕ) (out marks : List ℕ) where
+    pub gate-passed : not t ≡ true
+        → (k ≡ cond (gateAt rows i) (k + 1) k) × ((out ≡ gateAdded m rows i k out) × (marks ≡ cond (gateAt rows i) (set marks i k) marks))
+    unfolding gateAdded
+    gate-passed h = let g : gateAt rows i ≡ false = sym e ∙ not-true t h in rw g (refl, (refl, refl))
+
+    pub gate-rebuilt : not t ≡ false → {x y : ℕ} {after : List ℕ} {r : Grown} → x ≡ renamed m (word0 rows i) → y ≡ renamed m (word1 rows i) → stateOf after r ≡ addGate out k x y
+        → (r .used ≡ cond (gateAt rows i) (k + 1) k) × ((after ≡ gateAdded m rows i k out) × (set marks i k ≡ cond (gateAt rows i) (set marks i k) marks))
+    unfolding gateAdded addGate
+    gate-rebuilt h p q s =
+        let g = gate-is h in
+        let s′ = rw (p, q) at s in
+        rw g (ap (λ (w : State). w .used) s, (ap (λ (w : State). w .rows) s′, refl))

@@ -1,0 +1,269 @@
+// A graph written anew: inputs first, then latches, then gates in row order.
+mod gates;
+mod leaves;
+
+ghost use mathlib.Core.Path.{_≡_};
+ghost use lib.ListN.{drop};
+ghost use Rattle.graph.specs.Graph.{lent};
+ghost use Rattle.graph.specs.Check.{cleared, checkSeen};
+ghost use Rattle.renumber.specs.Map.{Holds};
+ghost use Rattle.reencode.specs.Numbers.{numberOf};
+ghost use Rattle.reencode.specs.Rebuilding.{rowsOf, reencoded};
+ghost use Rattle.reencode.specs.Ready.{RowsReady, Ready};
+ghost use Rattle.reencode.specs.Call.{reencodeChecked, reencodeSeen, reencodeCall};
+use edge::Answer;
+use gates::rebuild_gates;
+use graph::Counts;
+use graph::marks::clear;
+use leaves::count_leaves;
+use leaves::number_inputs;
+use leaves::number_latches;
+use leaves::write_leaves;
+use renumber::Rebuilt;
+use renumber::output::has_room;
+use renumber::output::limits;
+use renumber::output::no_entries;
+use renumber::write_ids;
+use renumber::write_lists;
+
+// Numbers every row, in marks that are 0, and writes the rows.
+fn write_rows(
+    rows: &[u32],
+    inputs: &[u32],
+    latches: &[u32],
+    counts: Counts,
+    rows2: &mut [u32],
+    marks: &mut [u32],
+)
+    requires { ⌜ RowsReady (now rows) (now inputs) (now latches) counts (now marks) ⌝ }
+    ensures { λ _. ⌜ now (rows2 .exit) ≡ rowsOf (now (rows .entry)) (now (inputs .entry)) (now (latches .entry)) counts (now (rows2 .entry)) ⌝ }
+    ensures { λ _. ⌜ Holds (counts .rows) (numberOf (now (rows .entry)) (now (inputs .entry)) (now (latches .entry)) counts) (now (marks .exit)) ⌝ }
+    ensures { λ _. ⌜ drop (counts .rows) (now (marks .exit)) ≡ drop (counts .rows) (now (marks .entry)) ⌝ }
+{
+    number_inputs(inputs, counts.inputs, marks);
+    number_latches(latches, counts.latches, 1 + counts.inputs, marks);
+    let leaves = counts.inputs + counts.latches;
+    write_leaves(rows2, leaves);
+    rebuild_gates(rows, counts.rows, rows2, 1 + leaves, marks);
+}
+
+// Writes the whole graph, where no answer is left. The marks are 0 over the used rows, and are so again.
+fn rebuild(
+    rows: &[u32],
+    inputs: &[u32],
+    latches: &[u32],
+    constraints: &[u32],
+    bads: &[u32],
+    outputs: &[u32],
+    ends: &[u32],
+    edges: &[u32],
+    fairness: &[u32],
+    counts: Counts,
+    rows2: &mut [u32],
+    inputs2: &mut [u32],
+    latches2: &mut [u32],
+    constraints2: &mut [u32],
+    bads2: &mut [u32],
+    outputs2: &mut [u32],
+    ends2: &mut [u32],
+    edges2: &mut [u32],
+    fairness2: &mut [u32],
+    marks: &mut [u32],
+)
+    requires { ⌜
+        Ready (lent (now rows) (now inputs) (now latches) (now constraints) (now bads) (now outputs) (now ends) (now edges) (now fairness) counts)
+        (lent (now rows2) (now inputs2) (now latches2) (now constraints2) (now bads2) (now outputs2) (now ends2) (now edges2) (now fairness2) counts) (now marks)
+        ⌝ }
+    ensures { λ _. ⌜
+        lent (now (rows2 .exit)) (now (inputs2 .exit)) (now (latches2 .exit)) (now (constraints2 .exit)) (now (bads2 .exit)) (now (outputs2 .exit)) (now (ends2 .exit)) (now (edges2 .exit)) (now (fairness2 .exit)) counts
+        ≡ reencoded
+        (lent (now (rows .entry)) (now (inputs .entry)) (now (latches .entry)) (now (constraints .entry)) (now (bads .entry)) (now (outputs .entry)) (now (ends .entry)) (now (edges .entry)) (now (fairness .entry)) counts)
+        (lent (now (rows2 .entry)) (now (inputs2 .entry)) (now (latches2 .entry)) (now (constraints2 .entry)) (now (bads2 .entry)) (now (outputs2 .entry)) (now (ends2 .entry)) (now (edges2 .entry)) (now (fairness2 .entry)) counts)
+        ⌝ }
+    ensures { λ _. ⌜ now (marks .exit) ≡ cleared (counts .rows) (now (marks .entry)) ⌝ }
+{
+    write_rows(rows, inputs, latches, counts, rows2, marks);
+    write_ids(inputs2, 0, inputs, counts.inputs, marks);
+    write_lists(
+        latches2,
+        constraints2,
+        bads2,
+        outputs2,
+        ends2,
+        edges2,
+        fairness2,
+        no_entries(),
+        latches,
+        constraints,
+        bads,
+        outputs,
+        ends,
+        edges,
+        fairness,
+        counts,
+        marks,
+    );
+    clear(marks, counts.rows);
+}
+
+// Answers 1 to 5. Inputs and latches list each leaf once, so that a leaf is an orphan exactly if there are more leaves than entries.
+fn checked(
+    rows: &[u32],
+    inputs: &[u32],
+    latches: &[u32],
+    constraints: &[u32],
+    bads: &[u32],
+    outputs: &[u32],
+    ends: &[u32],
+    edges: &[u32],
+    fairness: &[u32],
+    counts: Counts,
+    rows2: &[u32],
+    inputs2: &[u32],
+    latches2: &[u32],
+    constraints2: &[u32],
+    bads2: &[u32],
+    outputs2: &[u32],
+    ends2: &[u32],
+    edges2: &[u32],
+    fairness2: &[u32],
+    marks: &mut [u32],
+) -> Answer
+    ensures { λ r. ⌜
+        checkSeen r (now (marks .exit))
+        ≡ reencodeChecked
+        (lent (now (rows .entry)) (now (inputs .entry)) (now (latches .entry)) (now (constraints .entry)) (now (bads .entry)) (now (outputs .entry)) (now (ends .entry)) (now (edges .entry)) (now (fairness .entry)) counts)
+        (lent (now (rows2 .entry)) (now (inputs2 .entry)) (now (latches2 .entry)) (now (constraints2 .entry)) (now (bads2 .entry)) (now (outputs2 .entry)) (now (ends2 .entry)) (now (edges2 .entry)) (now (fairness2 .entry)) counts)
+        (now (marks .entry))
+        ⌝ }
+{
+    if !limits(
+        rows2,
+        inputs2,
+        latches2,
+        constraints2,
+        bads2,
+        outputs2,
+        ends2,
+        edges2,
+        fairness2,
+    ) {
+        return Answer::BadSizes;
+    }
+    let answer = graph::check(
+        rows,
+        inputs,
+        latches,
+        constraints,
+        bads,
+        outputs,
+        ends,
+        edges,
+        fairness,
+        counts,
+        marks,
+    );
+    if !edge::is_done(answer) {
+        return answer;
+    }
+    if count_leaves(rows, counts.rows) != counts.inputs + counts.latches {
+        return Answer::BadArgument;
+    }
+    if !has_room(
+        rows2,
+        inputs2,
+        latches2,
+        constraints2,
+        bads2,
+        outputs2,
+        ends2,
+        edges2,
+        fairness2,
+        counts,
+    ) {
+        return Answer::NoRoom;
+    }
+    answer
+}
+
+// Writes the graph anew into the output's room. A leaf that neither inputs nor latches list: 4. A refusal changes nothing but the marks.
+pub fn reencode(
+    rows: &[u32],
+    inputs: &[u32],
+    latches: &[u32],
+    constraints: &[u32],
+    bads: &[u32],
+    outputs: &[u32],
+    ends: &[u32],
+    edges: &[u32],
+    fairness: &[u32],
+    counts: Counts,
+    rows2: &mut [u32],
+    inputs2: &mut [u32],
+    latches2: &mut [u32],
+    constraints2: &mut [u32],
+    bads2: &mut [u32],
+    outputs2: &mut [u32],
+    ends2: &mut [u32],
+    edges2: &mut [u32],
+    fairness2: &mut [u32],
+    marks: &mut [u32],
+) -> Rebuilt
+    ensures { λ r. ⌜
+        reencodeSeen r
+        (lent (now (rows2 .exit)) (now (inputs2 .exit)) (now (latches2 .exit)) (now (constraints2 .exit)) (now (bads2 .exit)) (now (outputs2 .exit)) (now (ends2 .exit)) (now (edges2 .exit)) (now (fairness2 .exit)) (r .counts))
+        (now (marks .exit))
+        ≡ reencodeCall
+        (lent (now (rows .entry)) (now (inputs .entry)) (now (latches .entry)) (now (constraints .entry)) (now (bads .entry)) (now (outputs .entry)) (now (ends .entry)) (now (edges .entry)) (now (fairness .entry)) counts)
+        (lent (now (rows2 .entry)) (now (inputs2 .entry)) (now (latches2 .entry)) (now (constraints2 .entry)) (now (bads2 .entry)) (now (outputs2 .entry)) (now (ends2 .entry)) (now (edges2 .entry)) (now (fairness2 .entry)) counts)
+        (now (marks .entry))
+        ⌝ }
+{
+    let answer = checked(
+        rows,
+        inputs,
+        latches,
+        constraints,
+        bads,
+        outputs,
+        ends,
+        edges,
+        fairness,
+        counts,
+        rows2,
+        inputs2,
+        latches2,
+        constraints2,
+        bads2,
+        outputs2,
+        ends2,
+        edges2,
+        fairness2,
+        marks,
+    );
+    if edge::is_done(answer) {
+        rebuild(
+            rows,
+            inputs,
+            latches,
+            constraints,
+            bads,
+            outputs,
+            ends,
+            edges,
+            fairness,
+            counts,
+            rows2,
+            inputs2,
+            latches2,
+            constraints2,
+            bads2,
+            outputs2,
+            ends2,
+            edges2,
+            fairness2,
+            marks,
+        );
+    }
+    Rebuilt { answer, counts }
+}
