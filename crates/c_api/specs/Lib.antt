@@ -1,1 +1,3 @@
 pub mod CApi
+pub mod Words
+pub mod Rebuild

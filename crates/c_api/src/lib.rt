@@ -1,4 +1,7 @@
 // The library for callers in C: a slice is a pointer and a length.
+mod numbers;
+mod rebuild;
+
 ghost use mathlib.Core.Path.{_≡_};
 ghost use Rattle.graph.specs.Graph.{lent};
 ghost use Rattle.graph.specs.Check.{checkCall};
