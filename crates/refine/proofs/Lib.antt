@@ -1,0 +1,6 @@
+pub mod Stepping
+pub mod Call
+pub mod Standing
+pub mod Result
+pub mod Forming
+pub mod Right

@@ -1,0 +1,87 @@
+-- `coi_refine` is right.
+-- Assumes nothing.
+use Prim.Native.Nat.{ℕ}
+use native.Mathlib.Omega.{arith}
+use mathlib.Core.Path.{_≡_, refl, ap, _∙_}
+use mathlib.Core.Bool.{Bool, true, false, cond}
+use mathlib.Core.List.{List}
+use lib.ListN.{length}
+use lib.Dec.{eqb}
+use borrow.Author.Tests.{eq-eqb, ne-eqb, le-leb}
+use Rattle.edge.specs.declared.answer.Given.{Given}
+use Rattle.edge.specs.Answers.{done, noRoom, orElse}
+use Rattle.edge.proofs.Tests.{both-true}
+use Rattle.graph.specs.Graph.{Lent}
+use Rattle.roots.proofs.Arguments.{args-accepts, args-untouched, args-cleared}
+use Rattle.renumber.specs.Room.{limits, hasRoom}
+use Rattle.renumber.proofs.Fitting.{limits-true, room-true}
+use Rattle.refine.specs.Refining.{countsOf, refined, oldRows}
+use Rattle.refine.specs.Call.{refineAsked, refineRoom, refineAnswer, refineCall}
+use Rattle.refine.specs.Meaning.{Refined, RefineLent, RefineRight}
+use Rattle.refine.proofs.Call.{answer-stops, answer-goes, all-right}
+use Rattle.refine.proofs.Forming.{is-refined}
+
+module _ (g out : Lent) (old marks : List ℕ) where
+  abbrev answer : ℕ
+  answer = refineAnswer g out (length old) marks .number
+
+  abbrev asked : Given
+  asked = refineAsked g out marks .given
+
+  -- the call's answer
+  answer-is : refineCall g out old marks .given .number ≡ answer
+  unfolding refineCall
+  answer-is = refl
+
+  accepts : RefineLent g out old marks → answer ≡ 0
+  unfolding refineAsked
+  accepts l =
+      let a : asked ≡ done = args-accepts (limits out) true g marks (record { roomy = limits-true out (l .limited); all-good = refl; sized = l .sized; well-formed = l .well-formed }) in
+      let r : refineRoom g out (length old) ≡ true = both-true {a = hasRoom out (countsOf g)} (room-true out (countsOf g) (l .room)) (le-leb (countsOf g .rows) (length old) (l .old-room)) in
+      let n : asked .number ≡ 0 = ap (λ (t : Given). t .number) a in
+      ap (λ (t : Given). t .number) (answer-goes g out (length old) marks n) ∙ rw r
+
+  graph-done : answer ≡ 0 → refineCall g out old marks .graph ≡ refined g out
+  unfolding refineCall
+  graph-done z = rw (eq-eqb answer 0 z)
+
+  old-done : answer ≡ 0 → refineCall g out old marks .old ≡ oldRows g old
+  unfolding refineCall
+  old-done z = rw (eq-eqb answer 0 z)
+
+  refines : answer ≡ 0 → Refined g (refineCall g out old marks .graph) (refineCall g out old marks .old)
+  refines z =
+      let l = all-right g out old marks z in
+      rw (graph-done z, old-done z) (is-refined g out (length marks) (l .sized) (l .well-formed) (l .room) (l .limited) old (l .old-room))
+
+  refused : (answer ≡ 0 → ⊥) → (refineCall g out old marks .graph ≡ out) × (refineCall g out old marks .old ≡ old)
+  unfolding refineCall
+  refused h = let f = ne-eqb answer 0 h in (rw f, rw f)
+
+  -- ---- the marks: only the check of what is lent answers 1
+  marks-are : refineCall g out old marks .marks ≡ refineAsked g out marks .marks
+  unfolding refineCall
+  marks-are = refl
+
+  by-sizes : answer ≡ 1 → asked .number ≡ 1
+  unfolding refineAnswer orElse
+  by-sizes = go (eqb (asked .number) 0) (refineRoom g out (length old))
+    where
+      go : (t r : Bool) → cond t (cond r done noRoom) asked .number ≡ 1 → asked .number ≡ 1
+      go true true z = absurd (omega arith)
+      go true false z = absurd (omega arith)
+      go false r z = z
+
+  sizes-first : asked .number ≡ 1 → answer ≡ 1
+  sizes-first z = ap (λ (t : Given). t .number) (answer-stops g out (length old) marks (λ (o : asked .number ≡ 0). absurd (omega arith))) ∙ z
+
+  pub refine-right : RefineRight g out old marks
+  refine-right =
+      record {
+        accepts = λ l. answer-is ∙ accepts l;
+        accepted = λ z. unfold refineCall in all-right g out old marks z;
+        refines = λ z. unfold refineCall in refines z;
+        refused = λ h. unfold refineCall in refused h;
+        untouched = λ z. marks-are ∙ (unfold refineAsked refineCall in args-untouched (limits out) true g marks (by-sizes z));
+        zeroed = λ h. marks-are ∙ (unfold refineAsked refineCall in args-cleared (limits out) true g marks (λ z. h (sizes-first z)));
+      }

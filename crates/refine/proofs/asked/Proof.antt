@@ -1,0 +1,39 @@
+-- `refine::asked` meets its contract.
+-- Assumes nothing.
+use mathlib.Core.Path.{sym, _∙_}
+use borrow.Author.Tests.{not-true, not-false}
+use Rattle.graph.specs.Graph.{Lent, lent}
+use Rattle.refine.proofs.Call.{asked-sizes, asked-told}
+use borrow.Author.Needs.{needs}
+use Rattle.refine.proofs.asked.Statement.{statement}
+use Rattle.refine.proofs.asked.Tie as tie
+
+graph : tie.Start → Lent
+graph c =
+    let a = c .args in
+    lent (a .rows .now) (a .inputs .now) (a .latches .now) (a .constraints .now) (a .bads .now) (a .outputs .now) (a .ends .now) (a .edges .now) (a .fairness .now) (a .counts)
+
+out : tie.Start → Lent
+out c =
+    let a = c .args in
+    lent (a .rows2 .now) (a .inputs2 .now) (a .latches2 .now) (a .constraints2 .now) (a .bads2 .now) (a .outputs2 .now) (a .ends2 .now) (a .edges2 .now) (a .fairness2 .now) (a .counts)
+
+limits-requires : tie.Need-limits-requires
+limits-requires c κs = search needs
+
+returns : tie.Need-returns
+unfolding graph out
+returns c = asked-sizes (graph (c .before .before .before .before .before .before .before .before .before .before .before .before .before .before .before .before .before .before .before .before .before)) (out (c .before .before .before .before .before .before .before .before .before .before .before .before .before .before .before .before .before .before .before .before .before)) (c .before .before .before .before .before .before .before .before .before .before .before .before .before .before .before .before .before .before .before .before .before .args .marks .now) (sym (c .before .limits .ensures) ∙ not-true _ (c .if1 .taken))
+
+check-requires : tie.Need-check-requires
+check-requires c κs = search needs
+
+same-length : tie.Need-same-length
+same-length c = search needs
+
+returns-2 : tie.Need-returns-2
+unfolding graph out
+returns-2 c = asked-told (graph (c .before .before .before .before .before .before .before .before .before .before .before .before .before .before .before .before .before .before .before .before .before .before .before .before .before)) (out (c .before .before .before .before .before .before .before .before .before .before .before .before .before .before .before .before .before .before .before .before .before .before .before .before .before)) (c .before .before .before .before .before .before .before .before .before .before .before .before .before .before .before .before .before .before .before .before .before .before .before .before .before .args .marks .now) (sym (c .before .before .before .before .before .limits .ensures) ∙ not-false _ (c .before .before .before .before .if1 .left)) (c .before .before .check .result) _ (c .before .before .check .ensures)
+
+pub asked-spec : {M : Type 1} → statement M
+asked-spec = tie.close (tie.spec limits-requires returns check-requires same-length returns-2)

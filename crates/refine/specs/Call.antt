@@ -1,0 +1,70 @@
+-- What `coi_refine` answers and writes.
+-- Assumes nothing.
+use Prim.Native.Nat.{ℕ}
+use mathlib.Core.Path.{_≡_, ap}
+use mathlib.Core.List.{List, _++_}
+use mathlib.Core.Bool.{Bool, true, cond, _&&_}
+use lib.ListN.{length, drop}
+use lib.Dec.{leb}
+use Rattle.edge.specs.declared.answer.Given.{Given}
+use Rattle.edge.specs.Answers.{done, noRoom, told, told-injective, orElse, determined}
+use Rattle.rows.specs.Reading.{ifDone}
+use Rattle.graph.specs.declared.Counts.{Counts}
+use Rattle.graph.specs.Graph.{Lent}
+use Rattle.graph.specs.Check.{CheckSeen}
+use Rattle.roots.specs.Arguments.{argsCall}
+use Rattle.renumber.specs.declared.Rebuilt.{Rebuilt}
+use Rattle.renumber.specs.Room.{limits, hasRoom}
+use Rattle.keep.specs.Kept.{keptFlags}
+use Rattle.keep.specs.Keeping.{newIds}
+use Rattle.refine.specs.Refining.{countsOf, refined, oldRows}
+
+-- answers 1 to 3, and the marks: `out` is the output graph's room, and there is no argument that could be wrong
+unfoldable pub refineAsked : Lent → Lent → List ℕ → CheckSeen
+refineAsked g out marks = argsCall (limits out) true g marks
+
+-- "rows, list entries .. still free are fewer than the call needs": in the output graph, and in the new-to-old list
+abbrev pub refineRoom : Lent → Lent → ℕ → Bool
+refineRoom g out old = hasRoom out (countsOf g) && leb (countsOf g .rows) old
+
+-- then 5
+unfoldable pub refineAnswer : Lent → Lent → ℕ → List ℕ → Given
+refineAnswer g out old marks = orElse (refineAsked g out marks .given) (cond (refineRoom g out old) done noRoom)
+
+-- ---- the call
+pub record RefineSeen : Type 0 where
+  pub given : Given
+  pub graph : Lent
+  pub old : List ℕ
+  pub marks : List ℕ
+
+abbrev pub refineSeen : Rebuilt → Lent → List ℕ → List ℕ → RefineSeen
+refineSeen r graph old marks = record { given = told (r .answer); graph = graph; old = old; marks = marks }
+
+-- "A refusal changes no row, list, output or state": `out` has the output's words and the counts that were given, which then come back
+unfoldable pub refineCall : Lent → Lent → List ℕ → List ℕ → RefineSeen
+refineCall g out old marks =
+    let t = refineAnswer g out (length old) marks in
+    record { given = t; graph = ifDone t (refined g out) out; old = ifDone t (oldRows g old) old; marks = refineAsked g out marks .marks }
+
+-- any two results that the promise allows are equal: the answer, every lent word with the counts, the new-to-old list, and the marks
+pub coi-refine-determined : (g out : Lent) (old marks : List ℕ) (r s : Rebuilt) (a b : Lent) (o p m n : List ℕ)
+    → refineSeen r a o m ≡ refineCall g out old marks → refineSeen s b p n ≡ refineCall g out old marks → (r .answer ≡ s .answer) × (a ≡ b) × (o ≡ p) × (m ≡ n)
+coi-refine-determined g out old marks r s a b o p m n x y =
+    let t = determined (refineCall g out old) marks (refineSeen r a o m) (refineSeen s b p n) x y in
+    (told-injective (r .answer) (s .answer) (ap (λ (x : RefineSeen). x .given) t), ap (λ (x : RefineSeen). x .graph) t, ap (λ (x : RefineSeen). x .old) t, ap (λ (x : RefineSeen). x .marks) t)
+
+-- ---- between the check and the writing
+pub record FoundSeen : Type 0 where
+  pub given : Given
+  pub counts : Counts
+  pub marks : List ℕ
+
+abbrev pub foundSeen : Rebuilt → List ℕ → FoundSeen
+foundSeen r marks = record { given = told (r .answer); counts = r .counts; marks = marks }
+
+-- where no answer is left, the counts are those of the result, and the marks of the used rows hold their new numbers
+unfoldable pub refineChecked : Lent → Lent → ℕ → List ℕ → FoundSeen
+refineChecked g out old marks =
+    let t = refineAnswer g out old marks in
+    record { given = t; counts = ifDone t (countsOf g) (g .counts); marks = ifDone t (newIds (keptFlags g) ++ drop (g .counts .rows) marks) (refineAsked g out marks .marks) }
