@@ -20,6 +20,7 @@ typedef struct {
 #define GRAPH_OUT OUT, OUT, OUT, OUT, OUT, OUT, OUT, OUT, OUT
 void sulandiro_merge(GRAPH_OUT, const uint64_t *, size_t, GRAPH_IN, const uint64_t *, size_t, OUT, uint64_t *, size_t);
 void sulandiro_reencode(GRAPH_IN, const uint64_t *, size_t, GRAPH_OUT, OUT, uint64_t *, size_t);
+void sulandiro_coi_refine(GRAPH_IN, const uint64_t *, size_t, GRAPH_OUT, OUT, OUT, uint64_t *, size_t);
 
 static Slot slots[SLOTS];
 static int order[SLOTS];
@@ -38,6 +39,9 @@ static int made(uint64_t call) {
         return LISTS;
     case 71:
         sulandiro_reencode(G(0), first, LISTS, G(9), S(19), told, TOLD);
+        return LISTS;
+    case 72:
+        sulandiro_coi_refine(G(0), first, LISTS, G(9), S(21), S(19), told, TOLD);
         return LISTS;
     default:
         return -1;

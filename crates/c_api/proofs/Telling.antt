@@ -8,7 +8,8 @@ use Rattle.graph.specs.Graph.{Lent}
 use Rattle.renumber.specs.declared.Rebuilt.{Rebuilt}
 use Rattle.merge.specs.Call.{MergeSeen, mergeSeen, mergeCall}
 use Rattle.reencode.specs.Call.{ReencodeSeen, reencodeSeen, reencodeCall}
-use Rattle.c_api.specs.Rebuild.{rebuiltSeen, rebuiltAs, toldRebuilt, mergeTold, reencodeTold}
+use Rattle.refine.specs.Call.{RefineSeen, refineSeen, refineCall}
+use Rattle.c_api.specs.Rebuild.{RebuiltSeen, refinedSeen, refineTold, rebuiltSeen, rebuiltAs, toldRebuilt, mergeTold, reencodeTold}
 
 module _ (before : List ℕ) (r : Rebuilt) (g : Lent) (m : List ℕ) {after : List ℕ} (w : after ≡ toldRebuilt before (told (r .answer)) (g .counts)) where
   seen : rebuiltSeen (g .rows) (g .inputs) (g .latches) (g .constraints) (g .bads) (g .outputs) (g .ends) (g .edges) (g .fairness) m after ≡ rebuiltAs (told (r .answer)) g m before
@@ -23,3 +24,9 @@ module _ (before : List ℕ) (r : Rebuilt) (g : Lent) (m : List ℕ) {after : Li
       → rebuiltSeen (g .rows) (g .inputs) (g .latches) (g .constraints) (g .bads) (g .outputs) (g .ends) (g .edges) (g .fairness) m after ≡ reencodeTold a b marks before
   unfolding reencodeTold
   reencode-told a b marks e = seen ∙ ap (λ (s : ReencodeSeen). rebuiltAs (s .given) (s .graph) (s .marks) before) e
+
+  pub refine-told : (o : List ℕ) (a b : Lent) (old marks : List ℕ) → refineSeen r g o m ≡ refineCall a b old marks
+      → refinedSeen (rebuiltSeen (g .rows) (g .inputs) (g .latches) (g .constraints) (g .bads) (g .outputs) (g .ends) (g .edges) (g .fairness) m after) o ≡ refineTold a b old marks before
+  unfolding refineTold
+  refine-told o a b old marks e =
+      ap (λ (s : RebuiltSeen). refinedSeen s o) seen ∙ ap (λ (s : RefineSeen). refinedSeen (rebuiltAs (s .given) (s .graph) (s .marks) before) (s .old)) e

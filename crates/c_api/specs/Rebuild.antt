@@ -10,6 +10,7 @@ use Rattle.graph.specs.declared.Counts.{Counts}
 use Rattle.graph.specs.Graph.{Lent}
 use Rattle.merge.specs.Call.{mergeCall}
 use Rattle.reencode.specs.Call.{reencodeCall}
+use Rattle.refine.specs.Call.{refineCall}
 use Rattle.c_api.specs.Words.{givenWords, countWords}
 
 -- the number and the place, then the counts, as far as there is room
@@ -36,8 +37,24 @@ mergeTold a b marks told = let s = mergeCall a b marks in rebuiltAs (s .given) (
 unfoldable pub reencodeTold : Lent → Lent → List ℕ → List ℕ → RebuiltSeen
 reencodeTold g out marks told = let s = reencodeCall g out marks in rebuiltAs (s .given) (s .graph) (s .marks) told
 
+-- the new-to-old list beside
+pub record RefinedSeen : Type 0 where
+  pub rebuilt : RebuiltSeen
+  pub old : List ℕ
+
+abbrev pub refinedSeen : RebuiltSeen → List ℕ → RefinedSeen
+refinedSeen rebuilt old = record { rebuilt = rebuilt; old = old }
+
+unfoldable pub refineTold : Lent → Lent → List ℕ → List ℕ → List ℕ → RefinedSeen
+refineTold g out old marks told = let s = refineCall g out old marks in refinedSeen (rebuiltAs (s .given) (s .graph) (s .marks) told) (s .old)
+
 -- any two results that a promise allows are equal: every list, the marks and what is told
 pub rebuilt-determined : (promised a b : RebuiltSeen) → a ≡ promised → b ≡ promised → (a .lists ≡ b .lists) × (a .marks ≡ b .marks) × (a .told ≡ b .told)
 rebuilt-determined promised a b p q =
     let t = determined (λ (s : RebuiltSeen). s) promised a b p q in
     (ap (λ (s : RebuiltSeen). s .lists) t, ap (λ (s : RebuiltSeen). s .marks) t, ap (λ (s : RebuiltSeen). s .told) t)
+
+pub refined-determined : (promised a b : RefinedSeen) → a ≡ promised → b ≡ promised → (a .rebuilt ≡ b .rebuilt) × (a .old ≡ b .old)
+refined-determined promised a b p q =
+    let t = determined (λ (s : RefinedSeen). s) promised a b p q in
+    (ap (λ (s : RefinedSeen). s .rebuilt) t, ap (λ (s : RefinedSeen). s .old) t)
