@@ -4,3 +4,4 @@ pub mod Standing
 pub mod Result
 pub mod Forming
 pub mod Right
+pub mod Cases

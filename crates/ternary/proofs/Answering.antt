@@ -1,10 +1,10 @@
 -- Laws of the calls: what is answered and written in each case.
 -- Assumes nothing.
-use Prim.Native.Nat.{ℕ, zero, suc, _+_, _*_, _/_, _≤_, _<_}
+use Prim.Native.Nat.{ℕ, _+_, _≤_, _<_}
 use native.Mathlib.Omega.{arith}
 use mathlib.Core.Path.{_≡_, refl, sym, ap, _∙_}
-use mathlib.Core.Bool.{Bool, true, false, cond, not, _&&_, _||_}
-use mathlib.Core.List.{List, [], _∷_, _++_, append-nil}
+use mathlib.Core.Bool.{Bool, true, false, cond, _&&_, _||_}
+use mathlib.Core.List.{List, _++_, append-nil}
 use lib.ListN.{length, getD, drop, length-append, drop-of-length-le}
 use lib.Dec.{eqb, ltb, leb}
 use borrow.Author.Tests.{ltb-true, ltb-false, lt-ltb, le-ltb, leb-true, le-leb, lt-leb, eqb-true, eqb-false, eq-eqb}
@@ -13,20 +13,17 @@ use Rattle.edge.specs.declared.answer.Answer.the-variants.{Done, BadSizes, BadA
 use Rattle.edge.specs.declared.answer.Given.{Given}
 use Rattle.edge.specs.Answers.{done, badSizes, badArgument, told, orElse}
 use Rattle.edge.specs.Edges.{idOf}
-use Rattle.edge.proofs.Tests.{both, either, false-true}
+use Rattle.edge.proofs.Tests.{both, false-true}
 use Rattle.rows.specs.Reading.{ifDone}
-use Rattle.graph.specs.Latches.{latchWords, latchAt}
 use Rattle.graph.specs.Leaves.{usedEdge}
-use Rattle.graph.specs.Graph.{Lent, sizesRight, Sized}
+use Rattle.graph.specs.Graph.{Lent, sizesRight}
 use Rattle.graph.specs.Check.{CheckSeen, checkSeen, checkCall, contents, cleared}
-use Rattle.graph.specs.WellFormed.{WellFormed}
 use Rattle.graph.proofs.WellFormed.{exact}
-use Rattle.ternary.specs.declared.ValueAnswer.{ValueAnswer}
 use Rattle.ternary.specs.Codes.{edge3, Codes, allCodes}
 use Rattle.ternary.specs.Run.{leaves, codesOf, run, next, nexts, nextRow, Within, Ready}
-use Rattle.ternary.specs.Calls.{Accepted, sizesFit, argumentsRight, answerOf, written, RunSeen, runSeen, runCall, StepSeen, stepSeen, stepCall, ValueSeen, valueSeen, valueGiven, valueCall}
+use Rattle.ternary.specs.Calls.{Accepted, argumentsRight, answerOf, written, RunSeen, runSeen, runCall, stepSeen, stepCall, ValueSeen, valueGiven, valueCall}
 use Rattle.ternary.proofs.Coding.{codes-all, all-codes}
-use Rattle.ternary.proofs.Running.{rows-long, nexts-long, nexts-front}
+use Rattle.ternary.proofs.Running.{rows-long, nexts-front}
 
 -- ---- the value of an edge
 abbrev valueRefused : Given → ValueSeen

@@ -3,17 +3,17 @@
 use Prim.Native.Nat.{ℕ, zero, suc, _+_, _*_, _/_, _%_, _≤_, _<_}
 use native.Mathlib.Omega.{arith}
 use native.Mathlib.Numerals.{add-one}
-use mathlib.Core.Path.{_≡_, refl, sym, ap, ap₂, _∙_}
+use mathlib.Core.Path.{_≡_, refl, sym, ap₂, _∙_}
 use mathlib.Core.Bool.{Bool, true, false, cond, _&&_, _||_}
 use mathlib.Core.Logic.{⊎-elim}
-use mathlib.Core.List.{List, [], _∷_, _++_}
-use lib.ListN.{length, getD, set, drop, drop-of-length-le, List·getD-append}
+use mathlib.Core.List.{List, [], _∷_}
+use lib.ListN.{length, getD, set, drop, drop-of-length-le}
 use lib.Seq.{drop-cons, set-out, getD-set-same, getD-set-other}
 use lib.Dec.{eqb, ltb, eqb→eq}
 use borrow.Author.Tests.{ltb-true, lt-ltb, le-ltb, eqb-true, eqb-false}
 use Rattle.edge.specs.Edges.{idOf, isComplemented}
 use Rattle.edge.proofs.Tests.{both, both-true, lt-or-le}
-use Rattle.ternary.specs.Codes.{unknown, and3, andTable, not3, edge3, Codes, allCodes, Nine}
+use Rattle.ternary.specs.Codes.{and3, andTable, not3, edge3, Codes, allCodes, Nine}
 use Rattle.ternary.proofs.Table.{at}
 
 -- ---- the table: one test over its entries

@@ -4,8 +4,8 @@ use Prim.Native.Nat.{ℕ, zero, suc, _≤_, _<_}
 use native.Mathlib.Omega.{arith}
 use mathlib.Core.Path.{_≡_, refl, sym, ap, ap₂, _∙_}
 use mathlib.Core.Bool.{Bool, true, false, cond, not, _&&_}
-use mathlib.Core.Logic.{_⊎_, inl, inr, ⊎-elim}
-use mathlib.Core.List.{List, [], _∷_}
+use mathlib.Core.Logic.{inl, inr}
+use mathlib.Core.List.{List}
 use lib.ListN.{getD}
 use lib.Dec.{eqb}
 use Rattle.edge.specs.Edges.{idOf, isComplemented}
@@ -22,7 +22,7 @@ use Rattle.graph.specs.Graph.{Lent, Sized}
 use Rattle.graph.specs.WellFormed.{WellFormed}
 use Rattle.ternary.specs.Codes.{unknown, and3, not3, edge3}
 use Rattle.ternary.specs.Run.{placed, inputRow, latchRow, nextRow, row3, rows3, codesOf, run, next, stateAt, frame}
-use Rattle.ternary.specs.Meaning.{Listed, codeOf, Agrees, Known, NoOrphan, Chosen, Means, Trace, AllKnown, Frames, truths, Traced, Whole, m7, M7}
+use Rattle.ternary.specs.Meaning.{Listed, codeOf, Agrees, Known, NoOrphan, Chosen, Means, Trace, AllKnown, Frames, truths, Traced, Whole, M7}
 use Rattle.ternary.proofs.Running.{nexts-at}
 use Rattle.ternary.proofs.Ruling.{obeys, leafCodes, run-gate, run-other, row-kind, listed-later, leaf-has, leaf-listed, blank-later, leaf-zero}
 

@@ -12,7 +12,7 @@ use lib.Dec.{eqb, ltb}
 use borrow.Author.Tests.{ltb-true, le-ltb, eqb-true, eqb-false}
 use Rattle.edge.specs.Edges.{idOf}
 use Rattle.edge.proofs.Tests.{both, either, lt-or-le}
-use Rattle.rows.specs.Rows.{word0, word1, falseWord, none, isFalseRow, isLeaf, isGate, isRow, leafAt, gateAt, rowAt}
+use Rattle.rows.specs.Rows.{word0, word1, falseWord, none, isFalseRow, isLeaf, isGate, isRow, leafAt, gateAt}
 use Rattle.rows.proofs.Laws.{gate-below}
 use Rattle.rows.proofs.Value.{leaf-no-gate}
 use Rattle.graph.specs.Graph.{Lent, Sized}

@@ -19,7 +19,7 @@ use Rattle.graph.specs.declared.Counts.{Counts}
 use Rattle.graph.specs.Latches.{latchAt}
 use Rattle.ternary.specs.Codes.{unknown, and3, edge3, Codes}
 use Rattle.ternary.specs.Run.{blank, placed, inputRow, latchRow, nextRow, Within, leaves, row3, rows3, codesOf, nexts, Ready}
-use Rattle.ternary.proofs.Coding.{and-code, edge-code, edge-same, stored}
+use Rattle.ternary.proofs.Coding.{and-code, edge-same, stored}
 
 -- ---- what is placed
 module _ (row : ℕ → ℕ) (codes : List ℕ) where

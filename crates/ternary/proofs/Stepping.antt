@@ -1,18 +1,18 @@
 -- Call after call: the steps run the frames.
 -- Assumes nothing.
-use Prim.Native.Nat.{ℕ, zero, suc, _<_}
+use Prim.Native.Nat.{ℕ, zero, suc}
 use native.Mathlib.Omega.{arith}
-use mathlib.Core.Path.{_≡_, refl, sym, ap, _∙_}
-use mathlib.Core.List.{List, _++_}
-use lib.ListN.{length, getD, drop, replicate, length-append, length-drop, length-replicate}
+use mathlib.Core.Path.{_≡_, refl, ap, _∙_}
+use mathlib.Core.List.{List}
+use lib.ListN.{length, drop, replicate, length-append, length-drop, length-replicate}
 use lib.Seq.{drop-at}
 use Rattle.edge.specs.Answers.{done}
 use Rattle.graph.specs.Latches.{latchAt}
 use Rattle.graph.specs.Graph.{Lent}
 use Rattle.graph.specs.Check.{cleared}
 use Rattle.ternary.specs.Codes.{Codes}
-use Rattle.ternary.specs.Run.{codesOf, run, next, stateAt, frame}
-use Rattle.ternary.specs.Calls.{written, RunSeen, StepSeen, runCall, stepCall, stepCalls, Accepted}
+use Rattle.ternary.specs.Run.{codesOf, run, next, stateAt}
+use Rattle.ternary.specs.Calls.{written, StepSeen, stepCall, stepCalls, Accepted}
 use Rattle.ternary.specs.Meaning.{Exactly, Steps, Inputs}
 use Rattle.ternary.proofs.Coding.{edge-code}
 use Rattle.ternary.proofs.Running.{leaves-codes, rows-codes, nexts-long, nexts-at}

@@ -16,7 +16,7 @@ use Rattle.graph.specs.Graph.{Lent, lent}
 use Rattle.graph.specs.Check.{cleared}
 use Rattle.ternary.specs.Codes.{unknown, and3, edge3, Codes}
 use Rattle.ternary.specs.Run.{inputRow, latchRow, nextRow, run, next, stateAt, frame}
-use Rattle.ternary.specs.Calls.{written, RunSeen, runCall, Accepted, stepCalls}
+use Rattle.ternary.specs.Calls.{written, runCall, Accepted, stepCalls}
 
 -- ---- when it is done, and what then
 -- the run is done exactly where everything is as it must be, and then it writes the codes

@@ -1,3 +1,5 @@
+-- `ternary::ternary_simulate` meets its contract.
+-- Assumes nothing.
 use mathlib.Core.Path.{sym, _∙_}
 use borrow.Author.Tests.{not-true, not-false}
 use Rattle.graph.specs.Graph.{Lent, lent}
@@ -5,60 +7,45 @@ use Rattle.ternary.proofs.Answering.{run-short, run-refused, run-argume
 use borrow.Author.Needs.{needs}
 use Rattle.ternary.proofs.ternary_simulate.Statement.{statement}
 use Rattle.ternary.proofs.ternary_simulate.Tie as tie
-use Rattle.ternary.proofs.ternary_simulate.Reads as reads
-use Rattle.ternary.proofs.ternary_simulate.Lts as lts
-use Rattle.edge.proofs.is_done.Reads as is-done-reads
-use Rattle.graph.proofs.check.Reads as check-reads
-use Rattle.ternary.proofs.arguments.Reads as arguments-reads
-use Rattle.ternary.proofs.run.write_values.Reads as write-values-reads
 
 graph : tie.Start → Lent
 graph c =
     let a = c .args in
     lent (a .rows .now) (a .inputs .now) (a .latches .now) (a .constraints .now) (a .bads .now) (a .outputs .now) (a .ends .now) (a .edges .now) (a .fairness .now) (a .counts)
 
--- src/lib.rt:47:9
 returns : tie.Need-returns
 unfolding graph
 returns c =
     let a = (c .before .before .before .before .before .before .before .before .before .before .before .before .before .before .before .args) in
     run-short (graph (c .before .before .before .before .before .before .before .before .before .before .before .before .before .before .before)) (a .input .now) (a .state .now) (a .values .now) (a .marks .now) (c .if1 .taken)
 
--- src/lib.rt:49:9
 check-requires : tie.Need-check-requires
 check-requires c κs = search needs
 
--- src/lib.rt:62:9
 is-done-requires : tie.Need-is-done-requires
 is-done-requires c κs = search needs
 
--- src/lib.rt:63:9
 same-length : tie.Need-same-length
 same-length c = search needs
 
--- src/lib.rt:63:9
 returns-2 : tie.Need-returns-2
 unfolding graph
 returns-2 c =
     let a = (c .before .before .before .before .before .before .before .before .before .before .before .before .before .before .before .before .before .before .before .before .before .args) in
     run-refused (graph (c .before .before .before .before .before .before .before .before .before .before .before .before .before .before .before .before .before .before .before .before .before)) (a .input .now) (a .state .now) (a .values .now) (a .marks .now) (c .before .before .before .before .before .before .if1 .left) (c .before .before .before .before .check .result) _ (c .before .before .before .before .check .ensures) (sym (c .before .is-done .ensures) ∙ not-true _ (c .if2 .taken))
 
--- src/lib.rt:65:9
 arguments-requires : tie.Need-arguments-requires
 arguments-requires c κs = search needs
 
--- src/lib.rt:66:9
 same-length-2 : tie.Need-same-length-2
 same-length-2 c = search needs
 
--- src/lib.rt:66:9
 returns-3 : tie.Need-returns-3
 unfolding graph
 returns-3 c =
     let a = (c .before .before .before .before .before .before .before .before .before .before .before .before .before .before .before .before .before .before .before .before .before .before .before .args) in
     run-argument (graph (c .before .before .before .before .before .before .before .before .before .before .before .before .before .before .before .before .before .before .before .before .before .before .before)) (a .input .now) (a .state .now) (a .values .now) (a .marks .now) (c .before .before .before .before .before .before .before .before .if1 .left) (c .before .before .before .before .before .before .check .result) _ (c .before .before .before .before .before .before .check .ensures) (sym (c .before .before .before .is-done .ensures) ∙ not-false _ (c .before .before .if2 .left)) (sym (c .before .arguments .ensures) ∙ not-true _ (c .if3 .taken))
 
--- src/lib.rt:68:5
 write-values-requires : tie.Need-write-values-requires
 unfolding graph
 write-values-requires c κs =
@@ -66,15 +53,12 @@ write-values-requires c κs =
     ready (graph (c .before .before .before .before .before .before .before .before .before .before .before .before .before .before .before .before .before .before .before .before .before .before .before .before)) (a .input .now) (a .state .now) (a .values .now) (a .marks .now)
     (run-accepted (graph (c .before .before .before .before .before .before .before .before .before .before .before .before .before .before .before .before .before .before .before .before .before .before .before .before)) (a .input .now) (a .state .now) (a .values .now) (a .marks .now) (c .before .before .before .before .before .before .before .before .before .if1 .left) (c .before .before .before .before .before .before .before .check .result) _ (c .before .before .before .before .before .before .before .check .ensures) (sym (c .before .before .before .before .is-done .ensures) ∙ not-false _ (c .before .before .before .if2 .left)) (sym (c .before .before .arguments .ensures) ∙ not-false _ (c .before .if3 .left)))
 
--- src/lib.rt:25:1
 same-length-3 : tie.Need-same-length-3
 same-length-3 c = search needs
 
--- src/lib.rt:25:1
 same-length-4 : tie.Need-same-length-4
 same-length-4 c = search needs
 
--- src/lib.rt:25:1
 returns-4 : tie.Need-returns-4
 unfolding graph
 returns-4 c =

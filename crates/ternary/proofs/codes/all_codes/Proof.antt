@@ -1,14 +1,14 @@
-use Prim.Native.Nat.{_-_, _≤_, _<_}
+-- `ternary::codes::all_codes` meets its contract.
+-- Assumes nothing.
+use Prim.Native.Nat.{_-_, _≤_}
 use native.Mathlib.Omega.{arith}
 use mathlib.Core.Path.{_≡_, refl, sym, _∙_}
-use lib.ListN.{length, getD, drop}
+use lib.ListN.{length, drop}
 use Rattle.ternary.specs.Codes.{allCodes}
 use Rattle.ternary.proofs.Coding.{codes-end, codes-stop, codes-go}
 use borrow.Author.Needs.{needs}
 use Rattle.ternary.proofs.codes.all_codes.Statement.{statement}
 use Rattle.ternary.proofs.codes.all_codes.Tie as tie
-use Rattle.ternary.proofs.codes.all_codes.Reads as reads
-use Rattle.ternary.proofs.codes.all_codes.Lts as lts
 
 abbrev Inv-loop : tie.InvT-loop
 Inv-loop list i₀ i-end i = (i ≤ length list) × (i-end ≡ length list) × (allCodes (drop i list) ≡ allCodes list)
@@ -16,31 +16,24 @@ Inv-loop list i₀ i-end i = (i ≤ length list) × (i-end ≡ length list) × (
 abbrev μ-loop : tie.MeasureT-loop
 μ-loop list i₀ i-end i = i-end - i
 
--- src/codes.rt:48:5
 loop-holds : tie.Need-loop-holds Inv-loop μ-loop
 loop-holds c = (search needs, refl, refl)
 
--- src/codes.rt:49:22
 shared-slice-read-if1 : tie.Need-shared-slice-read-if1 Inv-loop μ-loop
 shared-slice-read-if1 c = search needs
 
--- src/codes.rt:50:13
 returns : tie.Need-returns Inv-loop μ-loop
 returns c = sym (codes-stop (c .before .before .before .before .args .list .now) (c .before .before .before .loop .i) (omega arith) (c .if1 .taken)) ∙ (c .before .before .before .loop .inv .2)
 
--- src/codes.rt:48:9
 add-i : tie.Need-add-i Inv-loop μ-loop
 add-i c = search needs
 
--- src/codes.rt:48:5
 loop-less : tie.Need-loop-less Inv-loop μ-loop
 loop-less c = search needs
 
--- src/codes.rt:48:5
 loop-again : tie.Need-loop-again Inv-loop μ-loop
 loop-again c = (search needs, (c .before .before .before .loop .inv .1), sym (codes-go (c .before .before .before .before .args .list .now) (c .before .before .before .loop .i) (omega arith) (c .if1 .left)) ∙ (c .before .before .before .loop .inv .2))
 
--- src/codes.rt:45:1
 returns-2 : tie.Need-returns-2 Inv-loop μ-loop
 returns-2 c = sym (codes-end (c .before .before .args .list .now) (c .before .loop .i) (omega arith)) ∙ (c .before .loop .inv .2)
 

@@ -1,44 +1,33 @@
+-- `ternary::codes::edge_code` meets its contract.
+-- Assumes nothing.
 use mathlib.Core.Path.{sym, _∙_}
 use Rattle.ternary.specs.Codes.{edge3}
 use borrow.Author.Needs.{needs}
 use Rattle.ternary.proofs.codes.edge_code.Statement.{statement}
 use Rattle.ternary.proofs.codes.edge_code.Tie as tie
-use Rattle.ternary.proofs.codes.edge_code.Reads as reads
-use Rattle.ternary.proofs.codes.edge_code.Lts as lts
-use Rattle.edge.proofs.compl.Reads as compl-reads
-use Rattle.edge.proofs.node_id.Reads as node-id-reads
-use Rattle.ternary.proofs.codes.not3.Reads as not3-reads
 
--- src/codes.rt:37:13
 node-id-requires : tie.Need-node-id-requires
 node-id-requires c κs = search needs
 
--- src/codes.rt:37:13
 cast-i : tie.Need-cast-i
 cast-i c = search needs
 
--- src/codes.rt:38:8
 compl-requires : tie.Need-compl-requires
 compl-requires c κs = search needs
 
--- src/codes.rt:39:21
 shared-slice-read-not3 : tie.Need-shared-slice-read-not3
 shared-slice-read-not3 c = search needs
 
--- src/codes.rt:39:9
 not3-requires : tie.Need-not3-requires
 not3-requires c κs = search needs
 
--- src/codes.rt:39:9
 returns : tie.Need-returns
 unfolding edge3
 returns c = (c .not3 .ensures) ∙ rw (c .before .before .before .before .node-id .ensures, sym (c .before .before .before .compl .ensures) ∙ (c .before .before .if1 .taken))
 
--- src/codes.rt:41:5
 shared-slice-read-result : tie.Need-shared-slice-read-result
 shared-slice-read-result c = search needs
 
--- src/codes.rt:33:1
 returns-2 : tie.Need-returns-2
 unfolding edge3
 returns-2 c = rw (c .before .before .before .node-id .ensures, sym (c .before .before .compl .ensures) ∙ (c .before .if1 .left))

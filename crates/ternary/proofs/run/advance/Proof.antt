@@ -1,3 +1,5 @@
+-- `ternary::run::advance` meets its contract.
+-- Assumes nothing.
 use Prim.Native.Nat.{ℕ, _-_, _≤_}
 use native.Mathlib.Omega.{arith}
 use native.Mathlib.Nat.{le-antisymm}
@@ -11,10 +13,6 @@ use Rattle.ternary.proofs.Running.{nexts-turn}
 use borrow.Author.Needs.{needs}
 use Rattle.ternary.proofs.run.advance.Statement.{statement}
 use Rattle.ternary.proofs.run.advance.Tie as tie
-use Rattle.ternary.proofs.run.advance.Reads as reads
-use Rattle.ternary.proofs.run.advance.Lts as lts
-use Rattle.graph.proofs.latch.latch_at.Reads as latch-at-reads
-use Rattle.ternary.proofs.codes.edge_code.Reads as edge-code-reads
 
 abbrev Inv-loop : tie.InvT-loop
 Inv-loop latches n values state₀ i₀ state i = (i ≤ n) × (length state ≡ length state₀) × (state ≡ nexts latches values i ++ drop i state₀)
@@ -22,40 +20,31 @@ Inv-loop latches n values state₀ i₀ state i = (i ≤ n) × (length state ≡
 abbrev μ-loop : tie.MeasureT-loop
 μ-loop latches n values state₀ i₀ state i = n - i
 
--- src/run.rt:101:5
 loop-holds : tie.Need-loop-holds Inv-loop μ-loop
 unfolding nexts
 loop-holds c = (search needs, refl, refl)
 
--- src/run.rt:102:13
 latch-at-requires : tie.Need-latch-at-requires Inv-loop μ-loop
 latch-at-requires c κs = search needs
 
--- src/run.rt:103:20
 edge-code-requires : tie.Need-edge-code-requires Inv-loop μ-loop
 edge-code-requires c κs = rw (ap (λ (l : Latch). l .next) (c .latch-at .ensures)) (c .before .before .before .before .before .before .pre .2 (c .before .before .loop .i) (c .before .loop-test .taken))
 
--- src/run.rt:103:9
 slice-write-state : tie.Need-slice-write-state Inv-loop μ-loop
 slice-write-state c = search needs
 
--- src/run.rt:101:9
 add-i : tie.Need-add-i Inv-loop μ-loop
 add-i c = search needs
 
--- src/run.rt:101:5
 loop-less : tie.Need-loop-less Inv-loop μ-loop
 loop-less c = search needs
 
--- src/run.rt:101:5
 loop-again : tie.Need-loop-again Inv-loop μ-loop
 loop-again c = (search needs, search needs, ap (λ (l : List ℕ). set l (c .before .before .before .loop .i) (c .edge-code .result)) (c .before .before .before .loop .inv .2) ∙ nexts-turn (c .before .before .before .before .before .before .before .args .latches .now) (c .before .before .before .before .before .before .before .args .values .now) (c .before .before .before .loop .i) (c .before .before .before .before .before .before .before .args .state .now) (omega arith) (c .edge-code .result) (c .edge-code .ensures ∙ ap (λ (l : Latch). edge3 (c .before .before .before .before .before .before .before .args .values .now) (l .next)) (c .before .latch-at .ensures)))
 
--- src/run.rt:97:1
 same-length : tie.Need-same-length Inv-loop μ-loop
 same-length c = search needs
 
--- src/run.rt:97:1
 returns : tie.Need-returns Inv-loop μ-loop
 returns c = rw (le-antisymm (c .before .loop .inv .0) (c .loop-test .left)) at (c .before .loop .inv .2)
 

@@ -1,3 +1,5 @@
+-- `ternary::run::blank` meets its contract.
+-- Assumes nothing.
 use Prim.Native.Nat.{ℕ, _-_, _≤_}
 use native.Mathlib.Omega.{arith}
 use native.Mathlib.Nat.{le-antisymm}
@@ -10,8 +12,6 @@ use Rattle.ternary.specs.Codes.{unknown}
 use borrow.Author.Needs.{needs}
 use Rattle.ternary.proofs.run.blank.Statement.{statement}
 use Rattle.ternary.proofs.run.blank.Tie as tie
-use Rattle.ternary.proofs.run.blank.Reads as reads
-use Rattle.ternary.proofs.run.blank.Lts as lts
 
 abbrev Inv-loop : tie.InvT-loop
 Inv-loop values₀ used i₀ values i = (i ≤ used) × (length values ≡ length values₀) × (values ≡ replicate i unknown ++ drop i values₀)
@@ -19,35 +19,27 @@ Inv-loop values₀ used i₀ values i = (i ≤ used) × (length values ≡ lengt
 abbrev μ-loop : tie.MeasureT-loop
 μ-loop values₀ used i₀ values i = used - i
 
--- src/run.rt:21:5
 loop-holds : tie.Need-loop-holds Inv-loop μ-loop
 loop-holds c = (search needs, refl, refl)
 
--- src/run.rt:22:9
 slice-write-values : tie.Need-slice-write-values Inv-loop μ-loop
 slice-write-values c = search needs
 
--- src/run.rt:21:9
 add-i : tie.Need-add-i Inv-loop μ-loop
 add-i c = search needs
 
--- src/run.rt:21:5
 loop-less : tie.Need-loop-less Inv-loop μ-loop
 loop-less c = search needs
 
--- src/run.rt:21:5
 loop-again : tie.Need-loop-again Inv-loop μ-loop
 loop-again c = (search needs, search needs, ap (λ (l : List ℕ). set l (c .before .loop .i) unknown) (c .before .loop .inv .2) ∙ fill-more (c .before .loop .i) unknown (c .before .before .args .values .now) (omega arith))
 
--- src/run.rt:24:5
 slice-write-values-2 : tie.Need-slice-write-values-2 Inv-loop μ-loop
 slice-write-values-2 c = search needs
 
--- src/run.rt:17:1
 same-length : tie.Need-same-length Inv-loop μ-loop
 same-length c = search needs
 
--- src/run.rt:17:1
 returns : tie.Need-returns Inv-loop μ-loop
 returns c =
     let used = (c .before .before .args .used) in

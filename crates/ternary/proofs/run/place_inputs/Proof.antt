@@ -1,3 +1,5 @@
+-- `ternary::run::place_inputs` meets its contract.
+-- Assumes nothing.
 use Prim.Native.Nat.{ℕ, _-_, _≤_}
 use native.Mathlib.Omega.{arith}
 use native.Mathlib.Nat.{le-antisymm}
@@ -9,8 +11,6 @@ use Rattle.ternary.proofs.Running.{placed-more}
 use borrow.Author.Needs.{needs}
 use Rattle.ternary.proofs.run.place_inputs.Statement.{statement}
 use Rattle.ternary.proofs.run.place_inputs.Tie as tie
-use Rattle.ternary.proofs.run.place_inputs.Reads as reads
-use Rattle.ternary.proofs.run.place_inputs.Lts as lts
 
 abbrev Inv-loop : tie.InvT-loop
 Inv-loop inputs n input values₀ i₀ values i = (i ≤ n) × (length values ≡ length values₀) × (values ≡ placed (inputRow inputs) input i values₀)
@@ -18,48 +18,37 @@ Inv-loop inputs n input values₀ i₀ values i = (i ≤ n) × (length values �
 abbrev μ-loop : tie.MeasureT-loop
 μ-loop inputs n input values₀ i₀ values i = n - i
 
--- src/run.rt:31:5
 loop-holds : tie.Need-loop-holds Inv-loop μ-loop
 unfolding placed
 loop-holds c = (search needs, refl, refl)
 
--- src/run.rt:32:17
 mul-x : tie.Need-mul-x Inv-loop μ-loop
 mul-x c = search needs
 
--- src/run.rt:32:17
 shared-slice-read-x : tie.Need-shared-slice-read-x Inv-loop μ-loop
 shared-slice-read-x c = search needs
 
--- src/run.rt:32:17
 cast-x : tie.Need-cast-x Inv-loop μ-loop
 cast-x c = omega (arith, (c .shared-slice-known .given) (c .before .before .loop .i))
 
--- src/run.rt:33:21
 shared-slice-read-values : tie.Need-shared-slice-read-values Inv-loop μ-loop
 shared-slice-read-values c = search needs
 
--- src/run.rt:33:9
 slice-write-values : tie.Need-slice-write-values Inv-loop μ-loop
 slice-write-values c = omega (arith, (c .before .before .before .before .pre .2) (c .before .before .before .loop .i) (c .before .before .loop-test .taken))
 
--- src/run.rt:31:9
 add-i : tie.Need-add-i Inv-loop μ-loop
 add-i c = search needs
 
--- src/run.rt:31:5
 loop-less : tie.Need-loop-less Inv-loop μ-loop
 loop-less c = search needs
 
--- src/run.rt:31:5
 loop-again : tie.Need-loop-again Inv-loop μ-loop
 loop-again c = (search needs, search needs, ap (λ (l : List ℕ). set l (inputRow (c .before .before .before .before .args .inputs .now) (c .before .before .before .loop .i)) (getD (c .before .before .before .before .args .input .now) (c .before .before .before .loop .i) 0)) (c .before .before .before .loop .inv .2) ∙ placed-more (inputRow (c .before .before .before .before .args .inputs .now)) (c .before .before .before .before .args .input .now) (c .before .before .before .loop .i) (c .before .before .before .before .args .values .now))
 
--- src/run.rt:27:1
 same-length : tie.Need-same-length Inv-loop μ-loop
 same-length c = search needs
 
--- src/run.rt:27:1
 returns : tie.Need-returns Inv-loop μ-loop
 returns c = rw (le-antisymm (c .before .loop .inv .0) (c .loop-test .left)) at (c .before .loop .inv .2)
 

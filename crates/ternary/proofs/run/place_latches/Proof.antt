@@ -1,3 +1,5 @@
+-- `ternary::run::place_latches` meets its contract.
+-- Assumes nothing.
 use Prim.Native.Nat.{ℕ, _-_, _≤_}
 use native.Mathlib.Omega.{arith}
 use native.Mathlib.Nat.{le-antisymm}
@@ -10,9 +12,6 @@ use Rattle.ternary.proofs.Running.{placed-more}
 use borrow.Author.Needs.{needs}
 use Rattle.ternary.proofs.run.place_latches.Statement.{statement}
 use Rattle.ternary.proofs.run.place_latches.Tie as tie
-use Rattle.ternary.proofs.run.place_latches.Reads as reads
-use Rattle.ternary.proofs.run.place_latches.Lts as lts
-use Rattle.graph.proofs.latch.latch_at.Reads as latch-at-reads
 
 abbrev Inv-loop : tie.InvT-loop
 Inv-loop latches n state values₀ i₀ values i = (i ≤ n) × (length values ≡ length values₀) × (values ≡ placed (latchRow latches) state i values₀)
@@ -20,46 +19,36 @@ Inv-loop latches n state values₀ i₀ values i = (i ≤ n) × (length values �
 abbrev μ-loop : tie.MeasureT-loop
 μ-loop latches n state values₀ i₀ values i = n - i
 
--- src/run.rt:41:5
 loop-holds : tie.Need-loop-holds Inv-loop μ-loop
 unfolding placed
 loop-holds c = (search needs, refl, refl)
 
--- src/run.rt:42:17
 latch-at-requires : tie.Need-latch-at-requires Inv-loop μ-loop
 latch-at-requires c κs = search needs
 
--- src/run.rt:42:17
 cast-x : tie.Need-cast-x Inv-loop μ-loop
 cast-x c = search needs
 
--- src/run.rt:43:21
 shared-slice-read-values : tie.Need-shared-slice-read-values Inv-loop μ-loop
 shared-slice-read-values c = search needs
 
--- src/run.rt:43:9
 slice-write-values : tie.Need-slice-write-values Inv-loop μ-loop
 slice-write-values c = omega (arith, (c .before .before .before .before .before .before .before .before .pre .2) (c .before .before .before .before .loop .i) (c .before .before .before .loop-test .taken), ap (λ (l : Latch). l .input) (c .before .before .latch-at .ensures))
 
--- src/run.rt:41:9
 add-i : tie.Need-add-i Inv-loop μ-loop
 add-i c = search needs
 
--- src/run.rt:41:5
 loop-less : tie.Need-loop-less Inv-loop μ-loop
 loop-less c = search needs
 
--- src/run.rt:41:5
 loop-again : tie.Need-loop-again Inv-loop μ-loop
 loop-again c =
     let values = (c .before .before .before .before .before .before .before .before .args .values .now) in
     (search needs, search needs, ap (λ (l : Latch). set (c .before .before .before .before .loop .values) (l .input) (getD (c .before .before .before .before .before .before .before .before .args .state .now) (c .before .before .before .before .loop .i) 0)) (c .before .before .latch-at .ensures) ∙ (ap (λ (l : List ℕ). set l (latchRow (c .before .before .before .before .before .before .before .before .args .latches .now) (c .before .before .before .before .loop .i)) (getD (c .before .before .before .before .before .before .before .before .args .state .now) (c .before .before .before .before .loop .i) 0)) (c .before .before .before .before .loop .inv .2) ∙ placed-more (latchRow (c .before .before .before .before .before .before .before .before .args .latches .now)) (c .before .before .before .before .before .before .before .before .args .state .now) (c .before .before .before .before .loop .i) values))
 
--- src/run.rt:37:1
 same-length : tie.Need-same-length Inv-loop μ-loop
 same-length c = search needs
 
--- src/run.rt:37:1
 returns : tie.Need-returns Inv-loop μ-loop
 returns c = rw (le-antisymm (c .before .loop .inv .0) (c .loop-test .left)) at (c .before .loop .inv .2)
 

@@ -1,6 +1,7 @@
+-- `ternary::run::row_code` meets its contract.
+-- Assumes nothing.
 use native.Mathlib.Omega.{arith}
 use mathlib.Core.Path.{sym, ap₂, _∙_}
-use Rattle.rows.specs.Rows.{word0, word1}
 use Rattle.rows.proofs.Laws.{gate-below}
 use Rattle.ternary.specs.Codes.{and3}
 use Rattle.ternary.proofs.Coding.{edge-code}
@@ -8,67 +9,48 @@ use Rattle.ternary.proofs.Running.{row-gate, row-other}
 use borrow.Author.Needs.{needs}
 use Rattle.ternary.proofs.run.row_code.Statement.{statement}
 use Rattle.ternary.proofs.run.row_code.Tie as tie
-use Rattle.ternary.proofs.run.row_code.Reads as reads
-use Rattle.ternary.proofs.run.row_code.Lts as lts
-use Rattle.rows.proofs.kinds.is_gate.Reads as is-gate-reads
-use Rattle.ternary.proofs.codes.and3.Reads as and3-reads
-use Rattle.ternary.proofs.codes.edge_code.Reads as edge-code-reads
 
--- src/run.rt:53:18
 mul-a : tie.Need-mul-a
 mul-a c = search needs
 
--- src/run.rt:53:13
 mul-a-2 : tie.Need-mul-a-2
 mul-a-2 c = search needs
 
--- src/run.rt:53:13
 shared-slice-read-a : tie.Need-shared-slice-read-a
 shared-slice-read-a c = search needs
 
--- src/run.rt:54:18
 mul-b : tie.Need-mul-b
 mul-b c = search needs
 
--- src/run.rt:54:18
 add-b : tie.Need-add-b
 add-b c = search needs
 
--- src/run.rt:54:13
 mul-b-2 : tie.Need-mul-b-2
 mul-b-2 c = search needs
 
--- src/run.rt:54:13
 shared-slice-read-b : tie.Need-shared-slice-read-b
 shared-slice-read-b c = search needs
 
--- src/run.rt:55:8
 is-gate-requires : tie.Need-is-gate-requires
 is-gate-requires c κs = search needs
 
--- src/run.rt:56:21
 edge-code-requires : tie.Need-edge-code-requires
 edge-code-requires c κs = omega (arith, gate-below _ _ _ (sym (c .before .is-gate .ensures) ∙ (c .if1 .taken)) .0)
 
--- src/run.rt:56:43
 edge-code-requires-2 : tie.Need-edge-code-requires-2
 edge-code-requires-2 c κs = omega (arith, gate-below _ _ _ (sym (c .before .before .is-gate .ensures) ∙ (c .before .if1 .taken)) .1)
 
--- src/run.rt:56:9
 and3-requires : tie.Need-and3-requires
 and3-requires c κs =
     let below = gate-below _ _ _ (sym (c .before .before .before .is-gate .ensures) ∙ (c .before .before .if1 .taken)) in
     (rw (c .before .edge-code .ensures) (edge-code _ _ (c .before .before .before .before .before .before .before .before .pre .1 _ (below .0))), rw (c .edge-code2 .ensures) (edge-code _ _ (c .before .before .before .before .before .before .before .before .pre .1 _ (below .1))))
 
--- src/run.rt:56:9
 returns : tie.Need-returns
 returns c = (c .and3 .ensures) ∙ (ap₂ and3 (c .before .before .edge-code .ensures) (c .before .edge-code2 .ensures) ∙ sym (row-gate _ _ _ _ (sym (c .before .before .before .before .is-gate .ensures) ∙ (c .before .before .before .if1 .taken))))
 
--- src/run.rt:58:5
 shared-slice-read-result : tie.Need-shared-slice-read-result
 shared-slice-read-result c = search needs
 
--- src/run.rt:48:1
 returns-2 : tie.Need-returns-2
 returns-2 c = sym (row-other _ _ _ _ (sym (c .before .before .is-gate .ensures) ∙ (c .before .if1 .left)))
 

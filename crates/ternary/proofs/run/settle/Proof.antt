@@ -1,4 +1,6 @@
-use Prim.Native.Nat.{ℕ, _-_, _≤_}
+-- `ternary::run::settle` meets its contract.
+-- Assumes nothing.
+use Prim.Native.Nat.{_-_, _≤_}
 use native.Mathlib.Omega.{arith}
 use native.Mathlib.Nat.{le-antisymm}
 use mathlib.Core.Path.{_≡_, refl}
@@ -9,9 +11,6 @@ use Rattle.ternary.proofs.Running.{turn-codes, turn}
 use borrow.Author.Needs.{needs}
 use Rattle.ternary.proofs.run.settle.Statement.{statement}
 use Rattle.ternary.proofs.run.settle.Tie as tie
-use Rattle.ternary.proofs.run.settle.Reads as reads
-use Rattle.ternary.proofs.run.settle.Lts as lts
-use Rattle.ternary.proofs.run.row_code.Reads as row-code-reads
 
 abbrev Inv-loop : tie.InvT-loop
 Inv-loop rows used values₀ i₀ values i = (i ≤ used) × (length values ≡ length values₀) × (values ≡ rows3 rows values₀ i ++ drop i values₀)
@@ -19,36 +18,28 @@ Inv-loop rows used values₀ i₀ values i = (i ≤ used) × (length values ≡ 
 abbrev μ-loop : tie.MeasureT-loop
 μ-loop rows used values₀ i₀ values i = used - i
 
--- src/run.rt:67:5
 loop-holds : tie.Need-loop-holds Inv-loop μ-loop
 unfolding rows3
 loop-holds c = (search needs, refl, refl)
 
--- src/run.rt:68:13
 row-code-requires : tie.Need-row-code-requires Inv-loop μ-loop
 row-code-requires c κs = ((search needs, search needs), turn-codes _ _ _ (c .before .before .before .before .before .args .values .now) (omega arith) _ (c .before .before .loop .inv .2) (λ j h. (c .before .before .before .before .before .pre .1) j (omega arith)))
 
--- src/run.rt:69:9
 slice-write-values : tie.Need-slice-write-values Inv-loop μ-loop
 slice-write-values c = search needs
 
--- src/run.rt:67:9
 add-i : tie.Need-add-i Inv-loop μ-loop
 add-i c = search needs
 
--- src/run.rt:67:5
 loop-less : tie.Need-loop-less Inv-loop μ-loop
 loop-less c = search needs
 
--- src/run.rt:67:5
 loop-again : tie.Need-loop-again Inv-loop μ-loop
 loop-again c = (search needs, search needs, turn _ _ _ (c .before .before .before .before .before .before .args .values .now) (omega arith) _ (c .before .before .before .loop .inv .2) refl _ (c .row-code .ensures))
 
--- src/run.rt:62:1
 same-length : tie.Need-same-length Inv-loop μ-loop
 same-length c = search needs
 
--- src/run.rt:62:1
 returns : tie.Need-returns Inv-loop μ-loop
 returns c = rw (le-antisymm (c .before .loop .inv .0) (c .loop-test .left)) at (c .before .loop .inv .2)
 
