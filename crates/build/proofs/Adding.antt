@@ -16,11 +16,11 @@ use Rattle.edge.proofs.Tests.{both}
 use Rattle.rows.specs.Sizes.{maxRows, maxEntries, fits, rowsFit}
 use Rattle.rows.proofs.Laws.{rows-fit}
 use Rattle.graph.specs.declared.Counts.{Counts}
-use Rattle.graph.specs.Latches.{latchWords, latchesLent}
+use Rattle.graph.specs.Latches.{latchWords, latchesLent, latch}
 use Rattle.graph.specs.Leaves.{latchEdges}
 use Rattle.build.specs.declared.calls.Added.{Added}
 use Rattle.build.specs.Calls.{Left, left, callOf, addedSeen}
-use Rattle.build.specs.Leaves.{leafAnswer, inputAnswer, latch, latchAnswer}
+use Rattle.build.specs.Leaves.{leafAnswer, inputAnswer, latchAnswer}
 use Rattle.build.proofs.Answering.{all-three, call-refused, call-done}
 
 -- ---- a call, where a was answered

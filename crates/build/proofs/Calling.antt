@@ -18,12 +18,12 @@ use Rattle.rows.proofs.Laws.{rows-fit}
 use Rattle.graph.specs.declared.Counts.{Counts}
 use Rattle.build.specs.declared.calls.Built.{Built}
 use Rattle.build.specs.Calls.{answerOf, counted, left, builtSeen}
-use Rattle.build.specs.Gates.{State, state}
-use Rattle.build.specs.Lists.{listOf, eqOf}
+use Rattle.gates.specs.Gates.{State, state}
+use Rattle.gates.specs.Lists.{listOf, eqOf}
 use Rattle.build.specs.Nodes.{allUsed, gateSizes, gateAsked, gateCall}
 use Rattle.build.proofs.Answering.{seen, all-three, asked-first, asked-last, call-refused, call-done}
-use Rattle.build.proofs.Building.{Like}
-use Rattle.build.proofs.Listing.{list-sized, list-like, eq-sized, eq-like}
+use Rattle.gates.proofs.Building.{Like}
+use Rattle.gates.proofs.Listing.{list-sized, list-like, eq-sized, eq-like}
 
 -- what was answered, field by field
 pub built-seen : (rows : List ℕ) (r : Built) {a : Answer} {n : Counts} {e : ℕ} → (r .answer ≡ a) × (r .counts ≡ n) × (r .edge ≡ e)

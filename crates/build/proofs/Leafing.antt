@@ -3,11 +3,11 @@
 use Prim.Native.Nat.{ℕ, _+_, _*_, _≤_, _<_}
 use native.Mathlib.Omega.{arith}
 use mathlib.Core.Path.{_≡_, refl}
-use mathlib.Core.Bool.{Bool, true, _&&_, or-true}
+use mathlib.Core.Bool.{Bool, true, _&&_}
 use mathlib.Core.List.{List, []}
 use lib.ListN.{length}
 use lib.Dec.{ltb, leb}
-use borrow.Author.Tests.{lt-ltb, ltb-true, eq-eqb}
+use borrow.Author.Tests.{ltb-true, eq-eqb}
 use Rattle.edge.specs.declared.answer.Given.{Given}
 use Rattle.edge.proofs.Tests.{both}
 use Rattle.rows.specs.Sizes.{maxRows, maxEntries, fits, rowsLent, rowsFit}
@@ -15,24 +15,16 @@ use Rattle.rows.specs.Rows.{word0, word1, falseWord, none, isFalseRow, isLeaf, 
 use Rattle.rows.proofs.Laws.{rows-fit}
 use Rattle.rows.proofs.Value.{value-leaf}
 use Rattle.graph.specs.declared.Counts.{Counts}
-use Rattle.graph.specs.Latches.{latchesLent}
+use Rattle.graph.specs.Latches.{latchesLent, latch}
 use Rattle.graph.specs.Leaves.{latchEdges}
 use Rattle.build.specs.Calls.{answerOf, counted, Left, left, callOf}
-use Rattle.build.specs.Gates.{state}
-use Rattle.build.specs.Leaves.{firstRow, newCall, leafAdded, freeRow, leafAnswer, leafCall, inputAnswer, newInputCall, latch, latchAnswer, newLatchCall}
-use Rattle.build.specs.Meaning.{Grows, IsLeaf, Leaves}
+use Rattle.gates.specs.Gates.{state, firstRow, leafAdded}
+use Rattle.build.specs.Leaves.{newCall, freeRow, leafAnswer, leafCall, inputAnswer, newInputCall, latchAnswer, newLatchCall}
+use Rattle.gates.specs.Meaning.{Grows}
+use Rattle.build.specs.Meaning.{IsLeaf, Leaves}
 use Rattle.build.proofs.Answering.{all-three}
-use Rattle.build.proofs.Growing.{row-first, row-second, row-grows}
+use Rattle.gates.proofs.Growing.{leaf-here, leaf-row, row-first, row-second, row-grows}
 use Rattle.build.proofs.Meaning.{keeps}
-
--- ---- a leaf at a later row
-leaf-here : (used : ℕ) → 0 < used → isLeaf used none 0 ≡ true
-unfolding isLeaf
-leaf-here used some = rw (lt-ltb 0 used some)
-
-leaf-row : (used : ℕ) → 0 < used → isRow used none 0 ≡ true
-unfolding isRow
-leaf-row used some = rw (leaf-here used some, or-true (isFalseRow used none 0))
 
 -- ---- one is made
 module _ (rows : List ℕ) (n : Counts) (sizes : rowsFit (n .rows) rows ≡ true) (free : freeRow rows (n .rows) ≡ true) where

@@ -1,9 +1,6 @@
 pub mod Answering
-pub mod Building
-pub mod Listing
 pub mod Calling
 pub mod Adding
-pub mod Growing
 pub mod Meaning
 pub mod Leafing
 pub mod Staying

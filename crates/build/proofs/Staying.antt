@@ -17,21 +17,21 @@ use Rattle.rows.specs.Sizes.{maxRows, rowsLent, rowsFit}
 use Rattle.rows.specs.Rows.{none, leafAt, AllRows}
 use Rattle.graph.specs.declared.Counts.{Counts}
 use Rattle.graph.specs.declared.latch.Latch.{Latch}
-use Rattle.graph.specs.Latches.{latchWords, latchAt, latchInputs, latchSet}
+use Rattle.graph.specs.Latches.{latchWords, latchAt, latchInputs, latchSet, latch}
 use Rattle.graph.specs.Leaves.{member, usedEdge, latchEdges}
 use Rattle.graph.specs.Graph.{Lent}
 use Rattle.graph.specs.WellFormed.{UsedLeaf, listed, WellFormed}
 use Rattle.graph.proofs.Listed.{all-long, input-at, latch-at}
 use Rattle.build.specs.Calls.{answerOf, counted, left, callOf}
-use Rattle.build.specs.Gates.{State}
-use Rattle.build.specs.Lists.{listOf, eqOf}
+use Rattle.gates.specs.Gates.{State, leafAdded}
+use Rattle.gates.specs.Lists.{listOf, eqOf}
 use Rattle.build.specs.Nodes.{gateCall, listCall, eqCall}
-use Rattle.build.specs.Leaves.{newCall, leafAdded, freeRow, leafAnswer, leafCall, inputAnswer, newInputCall, addInputCall, latch, latchAnswer, newLatchCall, addLatchCall}
-use Rattle.build.specs.Meaning.{Grows}
+use Rattle.build.specs.Leaves.{newCall, freeRow, leafAnswer, leafCall, inputAnswer, newInputCall, addInputCall, latchAnswer, newLatchCall, addLatchCall}
+use Rattle.gates.specs.Meaning.{Grows}
 use Rattle.build.specs.Graphs.{withRows, withInputs, withLatches, Fresh, Staying}
 use Rattle.build.proofs.Answering.{all-three}
 use Rattle.build.proofs.Adding.{input-fits, latch-fits}
-use Rattle.build.proofs.Growing.{list-grows, eq-grows}
+use Rattle.gates.proofs.Growing.{list-grows, eq-grows}
 use Rattle.build.proofs.Meaning.{keeps, Went, went}
 use Rattle.build.proofs.Leafing.{first-good, leaf-grows, leaf-made, leaf-told, input-told, latch-told}
 
@@ -275,7 +275,7 @@ module _ (g : Lent) (long : g .counts .inputs ≤ length (g .inputs)) (w : WellF
   n = g .counts
 
   -- what is listed is used
-  listed-used : (j : ℕ) → j < length (listed g) → getD (listed g) j 0 < n .rows
+  pub listed-used : (j : ℕ) → j < length (listed g) → getD (listed g) j 0 < n .rows
   listed-used j l =
       let e : length (listed g) ≡ n .inputs + n .latches = all-long (g .inputs) (n .inputs) (g .latches) (n .latches) long in
       ⊎-elim

@@ -1,6 +1,6 @@
 -- The first row, leaves, inputs and latches.
 -- Assumes nothing.
-use Prim.Native.Nat.{ℕ, _+_, _*_}
+use Prim.Native.Nat.{ℕ, _+_}
 use mathlib.Core.Path.{_≡_}
 use mathlib.Core.List.{List, []}
 use mathlib.Core.Bool.{Bool, true, _&&_}
@@ -8,32 +8,22 @@ use lib.ListN.{length, set}
 use lib.Dec.{ltb, leb}
 use Rattle.edge.specs.declared.answer.Given.{Given}
 use Rattle.rows.specs.Sizes.{maxRows, maxEntries, fits, rowsLent, rowsFit}
-use Rattle.rows.specs.Rows.{falseWord, none}
 use Rattle.graph.specs.declared.Counts.{Counts}
-use Rattle.graph.specs.declared.latch.Latch.{Latch}
-use Rattle.graph.specs.Latches.{latchesLent, latchSet}
+use Rattle.graph.specs.Latches.{latch, latchesLent, latchSet}
 use Rattle.graph.specs.Leaves.{latchEdges}
+use Rattle.graph.specs.Graph.{noCounts}
 use Rattle.build.specs.declared.calls.Built.{Built}
 use Rattle.build.specs.declared.calls.Added.{Added}
 use Rattle.build.specs.Calls.{answerOf, counted, left, Seen, callOf, builtSeen, addedSeen, SameBuilt, SameAdded, built-determined, added-determined}
-use Rattle.build.specs.Gates.{rowAdded}
+use Rattle.gates.specs.Gates.{firstRow, leafAdded}
 
--- ---- the first row: "Row 0 is (4294967294, 0)"
-abbrev pub noCounts : Counts
-noCounts = record { rows = 0; inputs = 0; latches = 0; constraints = 0; bads = 0; outputs = 0; sets = 0; edges = 0; fairness = 0 }
-
-abbrev pub firstRow : List ℕ → List ℕ
-firstRow rows = rowAdded rows 0 falseWord 0
-
+-- ---- the first row
 -- `new` has row 0 alone. It is lent rows and no counts.
 unfoldable pub newCall : List ℕ → Seen
 newCall rows =
     callOf (answerOf (leb (rowsLent rows) maxRows) true (ltb 0 (rowsLent rows))) rows [] noCounts (left (firstRow rows) [] (counted noCounts 1 0 0) 0)
 
--- ---- a leaf: "A leaf, at any later row, is (4294967295, 0)"
-abbrev pub leafAdded : List ℕ → ℕ → List ℕ
-leafAdded rows used = rowAdded rows used none 0
-
+-- ---- a leaf
 abbrev pub freeRow : List ℕ → ℕ → Bool
 freeRow rows used = ltb used (rowsLent rows)
 
@@ -64,9 +54,6 @@ addInputCall rows inputs n input =
     (left rows (set inputs (n .inputs) input) (counted n (n .rows) (n .inputs + 1) (n .latches)) input)
 
 -- ---- latches
-abbrev pub latch : ℕ → ℕ → ℕ → Latch
-latch input next init = record { input = input; next = next; init = init }
-
 unfoldable pub latchAnswer : List ℕ → List ℕ → Counts → Bool → Bool → Given
 latchAnswer rows latches n good row =
     answerOf (rowsFit (n .rows) rows && fits (n .latches) (latchesLent latches) maxEntries) good (row && ltb (n .latches) (latchesLent latches))

@@ -1,6 +1,4 @@
 pub mod Calls
-pub mod Gates
-pub mod Lists
 pub mod Nodes
 pub mod Leaves
 pub mod Meaning

@@ -3,26 +3,18 @@
 use Prim.Native.Nat.{ℕ, _+_, _*_, _≤_, _<_}
 use mathlib.Core.Path.{_≡_}
 use mathlib.Core.Bool.{Bool, true, false, cond, not, _&&_, _||_}
-use mathlib.Core.List.{List, [], _∷_}
-use lib.ListN.{length, getD}
+use mathlib.Core.List.{List}
+use lib.ListN.{getD}
 use Rattle.edge.specs.Edges.{idOf}
 use Rattle.edge.specs.Meaning.{edgeValue}
 use Rattle.rows.specs.Sizes.{rowsLent}
-use Rattle.rows.specs.Rows.{leafAt, rowAt, AllRows}
+use Rattle.rows.specs.Rows.{leafAt, AllRows}
 use Rattle.rows.specs.Value.{value}
 use Rattle.graph.specs.declared.Counts.{Counts}
 use Rattle.build.specs.Calls.{Left, Seen}
-use Rattle.build.specs.Gates.{State}
+use Rattle.gates.specs.Meaning.{allTrue, anyTrue}
 use Rattle.build.specs.Nodes.{listCall, pairCall, implyCall, eqCall}
 use Rattle.build.specs.Leaves.{newCall, leafCall, newInputCall, newLatchCall}
-
--- s grew out of `used` rows: these stay word by word, every further used row is a row at its place, and the edge is used
-pub record Grows (rows : List ℕ) (used : ℕ) (s : State) : Type 0 where
-  pub more : used ≤ s .used
-  pub long : length (s .rows) ≡ length rows
-  pub kept : (k : ℕ) → k < 2 * used → getD (s .rows) k 0 ≡ getD rows k 0
-  pub good : (i : ℕ) → used ≤ i → i < s .used → rowAt (s .rows) i ≡ true
-  pub edge : idOf (s .edge) < s .used
 
 -- ---- what a call leaves of the rows
 pub record Keeps (rows : List ℕ) (used : ℕ) (after : Left) : Type 0 where
@@ -43,15 +35,6 @@ pub record Means (rows : List ℕ) (used : ℕ) (after : Left) (of : Of) : Type 
   pub keeps : Keeps rows used after
   pub edge : idOf (after .made) < after .counts .rows
   pub means : (leaf : ℕ → Bool) → edgeValue (value (after .rows) leaf) (after .made) ≡ of (edgeValue (value rows leaf))
-
--- every edge is true; some edge is
-unfoldable pub allTrue : (ℕ → Bool) → List ℕ → Bool
-allTrue v [] = true
-allTrue v (e ∷ es) = v e && allTrue v es
-
-unfoldable pub anyTrue : (ℕ → Bool) → List ℕ → Bool
-anyTrue v [] = false
-anyTrue v (e ∷ es) = v e || anyTrue v es
 
 -- where a call is done, what it made means `of`
 abbrev pub Done : List ℕ → Counts → Seen → Of → Type 0

@@ -1,34 +1,25 @@
 -- The constructors that make an edge.
 -- Assumes nothing.
-use Prim.Native.Nat.{ℕ, _<_}
+use Prim.Native.Nat.{ℕ}
 use mathlib.Core.List.{List, [], _∷_}
 use mathlib.Core.Bool.{Bool, true, false, _&&_}
-use lib.ListN.{length, getD}
+use lib.ListN.{length}
 use lib.Dec.{leb}
 use Rattle.edge.specs.declared.answer.Given.{Given}
-use Rattle.edge.specs.Edges.{idOf, complement}
+use Rattle.edge.specs.Edges.{complement}
 use Rattle.rows.specs.Sizes.{maxEntries, rowsLent, rowsFit}
-use Rattle.graph.specs.declared.search.Found.{Found}
-use Rattle.graph.specs.declared.search.Found.the-variants.{At, Nothing}
 use Rattle.graph.specs.declared.Counts.{Counts}
-use Rattle.graph.specs.Search.{firstBad}
+use Rattle.graph.specs.Search.{firstBad, nothingFound}
 use Rattle.graph.specs.Leaves.{goodEdge}
 use mathlib.Core.Path.{_≡_}
 use Rattle.build.specs.declared.calls.Built.{Built}
 use Rattle.build.specs.Calls.{answerOf, counted, left, Seen, callOf, builtSeen, SameBuilt, built-determined}
-use Rattle.build.specs.Gates.{State}
-use Rattle.build.specs.Lists.{listOf, eqOf}
-
-abbrev pub nothingFound : Found → Bool
-nothingFound (At i) = false
-nothingFound Nothing = true
+use Rattle.gates.specs.Gates.{State}
+use Rattle.gates.specs.Lists.{listOf, eqOf}
 
 -- every edge of the list is one to a used row
 unfoldable pub allUsed : ℕ → List ℕ → Bool
 allUsed used es = nothingFound (firstBad (goodEdge used es) 0 (length es))
-
-abbrev pub AllUsed : ℕ → List ℕ → Type 0
-AllUsed used es = (i : ℕ) → i < length es → idOf (getD es i 0) < used
 
 -- "used rows 0 or above the lent rows, a limit passed by rows or a list"
 abbrev pub gateSizes : List ℕ → ℕ → List ℕ → Bool

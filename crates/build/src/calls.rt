@@ -1,6 +1,5 @@
 // What a constructor answers, with the counts that come back by value.
 ghost use mathlib.Core.Path.{_≡_};
-ghost use mathlib.Core.List.{List, []};
 ghost use Rattle.edge.specs.Answers.{told};
 ghost use Rattle.build.specs.Calls.{answerOf, counted};
 use edge::Answer;

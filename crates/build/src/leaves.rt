@@ -1,46 +1,30 @@
 // The first row, leaves, inputs and latches.
 ghost use mathlib.Core.Path.{_≡_};
 ghost use mathlib.Core.List.{[]};
-ghost use Prim.Native.Nat.{_+_, _*_, _≤_};
-ghost use lib.ListN.{length};
+ghost use Prim.Native.Nat.{_+_};
 ghost use Rattle.edge.specs.Answers.{told};
 ghost use Rattle.build.specs.Calls.{counted, builtSeen, addedSeen};
-ghost use Rattle.build.specs.Leaves.{noCounts, newCall, freeRow, leafCall, inputAnswer, newInputCall, addInputCall, latchAnswer, newLatchCall, addLatchCall};
+ghost use Rattle.build.specs.Leaves.{newCall, freeRow, leafCall, inputAnswer, newInputCall, addInputCall, latchAnswer, newLatchCall, addLatchCall};
 use crate::calls::Added;
 use crate::calls::Built;
 use crate::calls::answered;
 use crate::calls::counted;
 use crate::calls::not_added;
 use crate::calls::refused;
-use crate::gates::add_row;
 use edge::Answer;
+use gates::add_row;
 use graph::Counts;
 use graph::latch::LATCH_WORDS;
 use graph::latch::Latch;
 use graph::latch::write_latch;
 use graph::leaves::latch_edges;
+use graph::no_counts;
 use rows::kinds::FALSE_ROW;
 use rows::kinds::NONE;
 use rows::sizes::MAX_ENTRIES;
 use rows::sizes::MAX_ROWS;
 use rows::sizes::fits;
 use rows::sizes::rows_fit;
-
-fn no_counts() -> Counts
-    ensures { λ r. ⌜ r ≡ noCounts ⌝ }
-{
-    Counts {
-        rows: 0,
-        inputs: 0,
-        latches: 0,
-        constraints: 0,
-        bads: 0,
-        outputs: 0,
-        sets: 0,
-        edges: 0,
-        fairness: 0,
-    }
-}
 
 // A graph of row 0 alone. On a refusal all counts are 0.
 pub fn new(rows: &mut [u32]) -> Built

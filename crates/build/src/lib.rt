@@ -1,8 +1,6 @@
 // Constructors: rows, inputs and latches are added to a graph that is lent. They look only at counts and edges, and don't scan rows.
 mod calls;
-pub mod gates;
 mod leaves;
-pub mod lists;
 mod nodes;
 
 pub use calls::Added;

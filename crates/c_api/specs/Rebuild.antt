@@ -8,53 +8,47 @@ use Rattle.edge.specs.declared.answer.Given.{Given}
 use Rattle.edge.specs.Answers.{determined}
 use Rattle.graph.specs.declared.Counts.{Counts}
 use Rattle.graph.specs.Graph.{Lent}
-use Rattle.merge.specs.Call.{mergeCall}
-use Rattle.reencode.specs.Call.{reencodeCall}
-use Rattle.refine.specs.Call.{refineCall}
+use Rattle.renumber.specs.Seen.{RebuiltSeen, ListedSeen}
 use Rattle.c_api.specs.Words.{givenWords, countWords}
 
 -- the number and the place, then the counts, as far as there is room
 unfoldable pub toldRebuilt : List ℕ → Given → Counts → List ℕ
 toldRebuilt told g n = sets (sets told 0 (givenWords g)) 4 (countWords n)
 
-pub record RebuiltSeen : Type 0 where
+pub record ToldSeen : Type 0 where
   pub lists : List (List ℕ)
   pub marks : List ℕ
   pub told : List ℕ
 
-abbrev pub rebuiltSeen : List ℕ → List ℕ → List ℕ → List ℕ → List ℕ → List ℕ → List ℕ → List ℕ → List ℕ → List ℕ → List ℕ → RebuiltSeen
-rebuiltSeen rows inputs latches constraints bads outputs ends edges fairness marks told =
+abbrev pub toldSeen : List ℕ → List ℕ → List ℕ → List ℕ → List ℕ → List ℕ → List ℕ → List ℕ → List ℕ → List ℕ → List ℕ → ToldSeen
+toldSeen rows inputs latches constraints bads outputs ends edges fairness marks told =
     record { lists = rows ∷ inputs ∷ latches ∷ constraints ∷ bads ∷ outputs ∷ ends ∷ edges ∷ fairness ∷ []; marks = marks; told = told }
 
--- the graph g, these marks, and this answer with g's counts
-abbrev pub rebuiltAs : Given → Lent → List ℕ → List ℕ → RebuiltSeen
-rebuiltAs given g marks told =
-    rebuiltSeen (g .rows) (g .inputs) (g .latches) (g .constraints) (g .bads) (g .outputs) (g .ends) (g .edges) (g .fairness) marks (toldRebuilt told given (g .counts))
+abbrev pub toldGraph : Lent → List ℕ → List ℕ → ToldSeen
+toldGraph g marks told = toldSeen (g .rows) (g .inputs) (g .latches) (g .constraints) (g .bads) (g .outputs) (g .ends) (g .edges) (g .fairness) marks told
 
-unfoldable pub mergeTold : Lent → Lent → List ℕ → List ℕ → RebuiltSeen
-mergeTold a b marks told = let s = mergeCall a b marks in rebuiltAs (s .given) (s .graph) (s .marks) told
+-- what a call leaves, told behind the words that were there
+unfoldable pub toldOf : RebuiltSeen → List ℕ → ToldSeen
+toldOf s told = toldGraph (s .graph) (s .marks) (toldRebuilt told (s .given) (s .graph .counts))
 
-unfoldable pub reencodeTold : Lent → Lent → List ℕ → List ℕ → RebuiltSeen
-reencodeTold g out marks told = let s = reencodeCall g out marks in rebuiltAs (s .given) (s .graph) (s .marks) told
-
--- the new-to-old list beside
-pub record RefinedSeen : Type 0 where
-  pub rebuilt : RebuiltSeen
+-- the list beside that a call hands back
+pub record ToldListed : Type 0 where
+  pub rebuilt : ToldSeen
   pub old : List ℕ
 
-abbrev pub refinedSeen : RebuiltSeen → List ℕ → RefinedSeen
-refinedSeen rebuilt old = record { rebuilt = rebuilt; old = old }
+abbrev pub toldListed : ToldSeen → List ℕ → ToldListed
+toldListed rebuilt old = record { rebuilt = rebuilt; old = old }
 
-unfoldable pub refineTold : Lent → Lent → List ℕ → List ℕ → List ℕ → RefinedSeen
-refineTold g out old marks told = let s = refineCall g out old marks in refinedSeen (rebuiltAs (s .given) (s .graph) (s .marks) told) (s .old)
+unfoldable pub toldListedOf : ListedSeen → List ℕ → ToldListed
+toldListedOf s told = toldListed (toldGraph (s .graph) (s .marks) (toldRebuilt told (s .given) (s .graph .counts))) (s .old)
 
 -- any two results that a promise allows are equal: every list, the marks and what is told
-pub rebuilt-determined : (promised a b : RebuiltSeen) → a ≡ promised → b ≡ promised → (a .lists ≡ b .lists) × (a .marks ≡ b .marks) × (a .told ≡ b .told)
-rebuilt-determined promised a b p q =
-    let t = determined (λ (s : RebuiltSeen). s) promised a b p q in
-    (ap (λ (s : RebuiltSeen). s .lists) t, ap (λ (s : RebuiltSeen). s .marks) t, ap (λ (s : RebuiltSeen). s .told) t)
+pub told-determined : (promised a b : ToldSeen) → a ≡ promised → b ≡ promised → (a .lists ≡ b .lists) × (a .marks ≡ b .marks) × (a .told ≡ b .told)
+told-determined promised a b p q =
+    let t = determined (λ (s : ToldSeen). s) promised a b p q in
+    (ap (λ (s : ToldSeen). s .lists) t, ap (λ (s : ToldSeen). s .marks) t, ap (λ (s : ToldSeen). s .told) t)
 
-pub refined-determined : (promised a b : RefinedSeen) → a ≡ promised → b ≡ promised → (a .rebuilt ≡ b .rebuilt) × (a .old ≡ b .old)
-refined-determined promised a b p q =
-    let t = determined (λ (s : RefinedSeen). s) promised a b p q in
-    (ap (λ (s : RefinedSeen). s .rebuilt) t, ap (λ (s : RefinedSeen). s .old) t)
+pub told-listed-determined : (promised a b : ToldListed) → a ≡ promised → b ≡ promised → (a .rebuilt ≡ b .rebuilt) × (a .old ≡ b .old)
+told-listed-determined promised a b p q =
+    let t = determined (λ (s : ToldListed). s) promised a b p q in
+    (ap (λ (s : ToldListed). s .rebuilt) t, ap (λ (s : ToldListed). s .old) t)

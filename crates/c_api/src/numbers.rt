@@ -4,8 +4,10 @@ ghost use lib.ListN.{getD, set};
 ghost use lib.Seq.{sets};
 ghost use Rattle.edge.specs.Answers.{told as toldOf};
 ghost use Rattle.c_api.specs.Words.{countsIn, givenWords, countWords};
+ghost use Rattle.c_api.specs.Rebuild.{toldRebuilt};
 use edge::Answer;
 use graph::Counts;
+use renumber::Rebuilt;
 
 // Word i, and 0 where there is none.
 fn at(words: &[u64], i: usize) -> usize
@@ -69,4 +71,14 @@ pub fn tell_counts(words: &mut [u64], n: Counts)
     put(words, 10, n.sets as u64);
     put(words, 11, n.edges as u64);
     put(words, 12, n.fairness as u64);
+}
+
+// Writes what a call that rebuilds a graph answers: the answer, then the counts.
+pub fn tell_rebuilt(told: &mut [u64], r: Rebuilt)
+    ensures { λ _. ⌜ now (told .exit) ≡ toldRebuilt (now (told .entry)) (toldOf (r .answer)) (r .counts) ⌝ }
+{
+    let a = r.answer;
+    let n = r.counts;
+    tell(told, a);
+    tell_counts(told, n);
 }

@@ -1,22 +1,13 @@
 // The calls that rebuild a graph. `told` takes the number and the place of the answer, then the nine counts.
 ghost use mathlib.Core.Path.{_≡_};
-ghost use Rattle.edge.specs.Answers.{told as toldOf};
 ghost use Rattle.graph.specs.Graph.{lent};
 ghost use Rattle.c_api.specs.Words.{countsIn};
-ghost use Rattle.c_api.specs.Rebuild.{toldRebuilt, rebuiltSeen, refinedSeen, mergeTold, reencodeTold, refineTold};
+ghost use Rattle.merge.specs.Call.{mergeCall};
+ghost use Rattle.reencode.specs.Call.{reencodeCall};
+ghost use Rattle.refine.specs.Call.{refineCall};
+ghost use Rattle.c_api.specs.Rebuild.{toldSeen, toldOf, toldListed, toldListedOf};
 use crate::numbers::counts_in;
-use crate::numbers::tell;
-use crate::numbers::tell_counts;
-use renumber::Rebuilt;
-
-fn tell_rebuilt(told: &mut [u64], r: Rebuilt)
-    ensures { λ _. ⌜ now (told .exit) ≡ toldRebuilt (now (told .entry)) (toldOf (r .answer)) (r .counts) ⌝ }
-{
-    let a = r.answer;
-    let n = r.counts;
-    tell(told, a);
-    tell_counts(told, n);
-}
+use crate::numbers::tell_rebuilt;
 
 // `merge::merge`.
 #[no_mangle]
@@ -45,11 +36,11 @@ pub extern "C" fn sulandiro_merge(
     told: &mut [u64],
 )
     ensures { λ _. ⌜
-        rebuiltSeen (now (rows .exit)) (now (inputs .exit)) (now (latches .exit)) (now (constraints .exit)) (now (bads .exit)) (now (outputs .exit)) (now (ends .exit)) (now (edges .exit)) (now (fairness .exit)) (now (marks .exit)) (now (told .exit))
-        ≡ mergeTold
+        toldSeen (now (rows .exit)) (now (inputs .exit)) (now (latches .exit)) (now (constraints .exit)) (now (bads .exit)) (now (outputs .exit)) (now (ends .exit)) (now (edges .exit)) (now (fairness .exit)) (now (marks .exit)) (now (told .exit))
+        ≡ toldOf (mergeCall
         (lent (now (rows .entry)) (now (inputs .entry)) (now (latches .entry)) (now (constraints .entry)) (now (bads .entry)) (now (outputs .entry)) (now (ends .entry)) (now (edges .entry)) (now (fairness .entry)) (countsIn (now (counts .entry))))
         (lent (now (rows2 .entry)) (now (inputs2 .entry)) (now (latches2 .entry)) (now (constraints2 .entry)) (now (bads2 .entry)) (now (outputs2 .entry)) (now (ends2 .entry)) (now (edges2 .entry)) (now (fairness2 .entry)) (countsIn (now (counts2 .entry))))
-        (now (marks .entry)) (now (told .entry))
+        (now (marks .entry))) (now (told .entry))
         ⌝ }
 {
     let n = counts_in(counts);
@@ -106,11 +97,11 @@ pub extern "C" fn sulandiro_reencode(
     told: &mut [u64],
 )
     ensures { λ _. ⌜
-        rebuiltSeen (now (rows2 .exit)) (now (inputs2 .exit)) (now (latches2 .exit)) (now (constraints2 .exit)) (now (bads2 .exit)) (now (outputs2 .exit)) (now (ends2 .exit)) (now (edges2 .exit)) (now (fairness2 .exit)) (now (marks .exit)) (now (told .exit))
-        ≡ reencodeTold
+        toldSeen (now (rows2 .exit)) (now (inputs2 .exit)) (now (latches2 .exit)) (now (constraints2 .exit)) (now (bads2 .exit)) (now (outputs2 .exit)) (now (ends2 .exit)) (now (edges2 .exit)) (now (fairness2 .exit)) (now (marks .exit)) (now (told .exit))
+        ≡ toldOf (reencodeCall
         (lent (now (rows .entry)) (now (inputs .entry)) (now (latches .entry)) (now (constraints .entry)) (now (bads .entry)) (now (outputs .entry)) (now (ends .entry)) (now (edges .entry)) (now (fairness .entry)) (countsIn (now (counts .entry))))
         (lent (now (rows2 .entry)) (now (inputs2 .entry)) (now (latches2 .entry)) (now (constraints2 .entry)) (now (bads2 .entry)) (now (outputs2 .entry)) (now (ends2 .entry)) (now (edges2 .entry)) (now (fairness2 .entry)) (countsIn (now (counts .entry))))
-        (now (marks .entry)) (now (told .entry))
+        (now (marks .entry))) (now (told .entry))
         ⌝ }
 {
     let n = counts_in(counts);
@@ -166,11 +157,11 @@ pub extern "C" fn sulandiro_coi_refine(
     told: &mut [u64],
 )
     ensures { λ _. ⌜
-        refinedSeen (rebuiltSeen (now (rows2 .exit)) (now (inputs2 .exit)) (now (latches2 .exit)) (now (constraints2 .exit)) (now (bads2 .exit)) (now (outputs2 .exit)) (now (ends2 .exit)) (now (edges2 .exit)) (now (fairness2 .exit)) (now (marks .exit)) (now (told .exit))) (now (old .exit))
-        ≡ refineTold
+        toldListed (toldSeen (now (rows2 .exit)) (now (inputs2 .exit)) (now (latches2 .exit)) (now (constraints2 .exit)) (now (bads2 .exit)) (now (outputs2 .exit)) (now (ends2 .exit)) (now (edges2 .exit)) (now (fairness2 .exit)) (now (marks .exit)) (now (told .exit))) (now (old .exit))
+        ≡ toldListedOf (refineCall
         (lent (now (rows .entry)) (now (inputs .entry)) (now (latches .entry)) (now (constraints .entry)) (now (bads .entry)) (now (outputs .entry)) (now (ends .entry)) (now (edges .entry)) (now (fairness .entry)) (countsIn (now (counts .entry))))
         (lent (now (rows2 .entry)) (now (inputs2 .entry)) (now (latches2 .entry)) (now (constraints2 .entry)) (now (bads2 .entry)) (now (outputs2 .entry)) (now (ends2 .entry)) (now (edges2 .entry)) (now (fairness2 .entry)) (countsIn (now (counts .entry))))
-        (now (old .entry)) (now (marks .entry)) (now (told .entry))
+        (now (old .entry)) (now (marks .entry))) (now (told .entry))
         ⌝ }
 {
     let n = counts_in(counts);

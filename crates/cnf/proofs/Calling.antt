@@ -11,10 +11,10 @@ use lib.Dec.{eqb, leb}
 use borrow.Author.Tests.{eqb-true, le-leb, lt-leb}
 use Rattle.edge.specs.declared.answer.Answer.{Answer}
 use Rattle.edge.specs.declared.answer.Answer.the-variants.{Done, NoRoom}
-use Rattle.edge.specs.Answers.{badSizes, done, noRoom, told, orElse}
+use Rattle.edge.specs.Answers.{done, noRoom, told, orElse}
 use Rattle.edge.proofs.Answers.{test-done, test-refused, goes-past}
-use Rattle.graph.specs.Graph.{Lent, Sized, sizesRight}
-use Rattle.graph.specs.Check.{CheckSeen, checkSeen, checkCall, contents, cleared}
+use Rattle.graph.specs.Graph.{Lent, Sized}
+use Rattle.graph.specs.Check.{CheckSeen, checkSeen, checkCall, cleared}
 use Rattle.graph.specs.WellFormed.{WellFormed}
 use Rattle.graph.proofs.WellFormed.{exact}
 use Rattle.roots.specs.Marking.{markEdges}
@@ -84,13 +84,7 @@ module _ (g : Lent) (shortcuts : Bool) (clauses marks : List ℕ) (a : Answer) {
     used = g .counts .rows
 
     after-cleared : after ≡ cleared used marks
-    unfolding checkCall
-    after-cleared = kept ∙ go (sizesRight g (length marks)) zero-number
-      where
-        go : (t : Bool) → cond {A = CheckSeen} t (record { given = contents g; marks = cleared used marks }) (record { given = badSizes; marks = marks }) .given .number ≡ 0
-            → cond {A = CheckSeen} t (record { given = contents g; marks = cleared used marks }) (record { given = badSizes; marks = marks }) .marks ≡ cleared used marks
-        go true z = refl
-        go false z = absurd (omega arith)
+    after-cleared = kept ∙ exact g marks .clear (λ (o : checkCall g marks .given .number ≡ 1). absurd (omega (arith, zero-number)))
 
     part-zero : take used after ≡ replicate used 0
     part-zero = rw after-cleared (take-at (replicate used 0) (drop used marks) used (length-replicate used 0))

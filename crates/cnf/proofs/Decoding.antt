@@ -15,7 +15,7 @@ use Rattle.shapes.specs.declared.Shape.the-variants.{Unwritten, Plain, Xor, Ite
 use Rattle.shapes.specs.Shapes.{shapeOf, operands, clausesOf, words}
 use Rattle.cnf.specs.Clauses.{writtenAt, walk, clausesIn}
 use Rattle.cnf.specs.Decode.{firstClauses, decoded}
-use Rattle.cnf.specs.Meaning.{gatesBelow}
+use Rattle.graph.specs.Count.{countBelow, gatesBelow}
 
 -- ---- back from the words
 read-back : (n : ℕ) (cs : List (List ℕ)) → length cs ≤ n → firstClauses n (words cs) ≡ cs
@@ -55,13 +55,13 @@ at-most-16 g (Xor a b) = omega arith
 at-most-16 g (Ite c t e) = omega arith
 
 row-few : (shortcuts : Bool) (rows : List ℕ) (i : ℕ) (marks : List ℕ) → length (words (clausesOf (2 * i) (writtenAt shortcuts rows i marks))) + 16 * gatesBelow rows i ≤ 16 * gatesBelow rows (suc i)
-unfolding writtenAt gatesBelow
+unfolding writtenAt countBelow
 row-few shortcuts rows i marks = go (eqb (getD marks i 0) 1) (gateAt rows i)
   where
     s : Shape
     s = shapeOf shortcuts rows (word0 rows i) (word1 rows i)
 
-    go : (m g : Bool) → length (words (clausesOf (2 * i) (cond (m && g) s Unwritten))) + 16 * gatesBelow rows i ≤ 16 * cond g (suc (gatesBelow rows i)) (gatesBelow rows i)
+    go : (m g : Bool) → length (words (clausesOf (2 * i) (cond (m && g) s Unwritten))) + 16 * gatesBelow rows i ≤ 16 * cond g (gatesBelow rows i + 1) (gatesBelow rows i)
     go true true = omega (arith, at-most-16 (2 * i) s)
     go true false = unfold words clausesOf in omega arith
     go false true = unfold words clausesOf in omega arith
@@ -77,12 +77,3 @@ walk-few shortcuts rows (suc i) marks =
 pub clauses-few : (shortcuts : Bool) (rows : List ℕ) (used : ℕ) (roots : List ℕ) → length (words (clausesIn shortcuts rows used roots)) ≤ 2 + 16 * gatesBelow rows used
 unfolding clausesIn words
 clauses-few shortcuts rows used roots = omega (arith, walk-few shortcuts rows used (markEdges roots (replicate used 0)))
-
-pub gates-few : (rows : List ℕ) (n : ℕ) → gatesBelow rows n ≤ n
-unfolding gatesBelow
-gates-few rows zero = omega arith
-gates-few rows (suc i) = go (gateAt rows i) (gates-few rows i)
-  where
-    go : (t : Bool) → gatesBelow rows i ≤ i → cond t (suc (gatesBelow rows i)) (gatesBelow rows i) ≤ suc i
-    go true h = omega arith
-    go false h = omega arith

@@ -19,7 +19,6 @@ use Rattle.rows.proofs.Value.{value-zero, value-other, value-leaf}
 use Rattle.graph.specs.Leaves.{usedEdge}
 use Rattle.graph.specs.Graph.{Lent, Sized}
 use Rattle.graph.specs.WellFormed.{WellFormed}
-use Rattle.roots.specs.Arguments.{every}
 use Rattle.roots.specs.Flags.{Flagged}
 use Rattle.roots.specs.Marking.{markEdges}
 use Rattle.roots.specs.Roots.{rootsOf}

@@ -23,7 +23,8 @@ use Rattle.shapes.specs.declared.Shape.the-variants.{Unwritten, Plain, Xor, Ite
 use Rattle.shapes.specs.Shapes.{shapeOf, operands, clausesOf, words}
 use Rattle.cnf.specs.Clauses.{writtenAt, walk}
 use Rattle.cnf.proofs.Fitting.{shape-fits}
-use Rattle.cnf.proofs.Decoding.{words-both, same-size, walk-few, gates-few}
+use Rattle.graph.proofs.Counting.{count-within}
+use Rattle.cnf.proofs.Decoding.{words-both, same-size, walk-few}
 use Rattle.shapes.proofs.Writing.{sets-both}
 
 -- ---- the operands of a shape, edge by edge
@@ -116,7 +117,7 @@ module _ (shortcuts : Bool) (rows : List ℕ) where
 
   -- no more than fits in a word
   pub left-few : (i : ℕ) (marks : List ℕ) → i ≤ maxRows → length (wordsLeft shortcuts rows i marks) ≤ 16777216
-  left-few i marks l = omega (arith, walk-few shortcuts rows i marks, gates-few rows i)
+  left-few i marks l = omega (arith, walk-few shortcuts rows i marks, count-within (gateAt rows) i)
 
   -- row i - 1 is next, written as s
   module _ (i : ℕ) (marks : List ℕ) (l : 0 < i) (s : Shape) (e : s ≡ writtenAt shortcuts rows (i - 1) marks) where

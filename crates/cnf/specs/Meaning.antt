@@ -1,14 +1,15 @@
 -- What the clauses mean, and what the call is held to.
 -- Assumes nothing.
-use Prim.Native.Nat.{ℕ, zero, suc, _+_, _*_, _≤_, _<_}
+use Prim.Native.Nat.{ℕ, _+_, _*_, _≤_, _<_}
 use mathlib.Core.Path.{_≡_}
-use mathlib.Core.Bool.{Bool, true, false, cond, _&&_, _||_}
+use mathlib.Core.Bool.{Bool, true, false, _&&_, _||_}
 use mathlib.Core.List.{List, [], _∷_}
 use lib.ListN.{length, getD, take, drop}
 use Rattle.edge.specs.Answers.{done, noRoom, told}
 use Rattle.edge.specs.Meaning.{edgeValue}
-use Rattle.rows.specs.Rows.{leafAt, gateAt}
+use Rattle.rows.specs.Rows.{leafAt}
 use Rattle.rows.specs.Value.{value}
+use Rattle.graph.specs.Count.{gatesBelow}
 use Rattle.graph.specs.Graph.{Lent, Sized}
 use Rattle.graph.specs.WellFormed.{WellFormed}
 use Rattle.roots.specs.Roots.{rootsOf}
@@ -39,11 +40,6 @@ pub record Translates (g : Lent) (clauses : List (List ℕ)) : Type 0 where
   pub extends : (leaf : ℕ → Bool) → Extension g clauses leaf
   pub forced : (v : ℕ → Bool) → meets v clauses ≡ true
       → (k : ℕ) → k < length (rootsOf g) → edgeValue v (getD (rootsOf g) k 0) ≡ edgeValue (value (g .rows) v) (getD (rootsOf g) k 0)
-
--- how many of the first n rows are gates
-unfoldable pub gatesBelow : List ℕ → ℕ → ℕ
-gatesBelow rows zero = 0
-gatesBelow rows (suc i) = cond (gateAt rows i) (suc (gatesBelow rows i)) (gatesBelow rows i)
 
 -- the buffer afterwards, so many words of which are clauses
 pub record Translated (g : Lent) (clauses : List ℕ) (count : ℕ) (after : List ℕ) : Type 0 where

@@ -6,7 +6,6 @@ pub use answer::Given;
 pub use answer::is_done;
 pub use answer::told;
 ghost use mathlib.Core.Path.{_≡_};
-ghost use mathlib.Core.Bool.{cond};
 ghost use lib.Dec.{eqb};
 ghost use Rattle.edge.specs.Edges.{idOf, isComplemented, complement, complementIf, constantOf, whichConstant, boolSeen, toConstantCall, edgeSeen, newCall, mapCall};
 

@@ -6,3 +6,4 @@ pub mod Checked
 pub mod Listed
 pub mod WellFormed
 pub mod Pairing
+pub mod Counting

@@ -243,6 +243,33 @@ module _ (g : Lent) (marks : List ℕ) where
       go true e = in-sized (sized g (length marks) e) (judged (stages g))
       go false e = unsized (λ s. false-true (sym e ∙ sizes-true g (length marks) s))
 
+  -- no stage answers 1
+  not-sizes : contents g .number ≡ 1 → ⊥
+  unfolding contents
+  not-sizes = go (judged (stages g))
+    where
+      go : AllClean (stages g) ⊎ Names (stages g) (firstFault (stages g)) → firstFault (stages g) .number ≡ 1 → ⊥
+      go (inl all) e = let z : firstFault (stages g) .number ≡ 0 = ap (λ (x : Given). x .number) (clean-done all) in omega arith
+      go (inr names) e = ⊎-elim (λ t. omega (arith, t .0)) (λ t. omega (arith, t .0)) (row-or-entry g names)
+
+  untouched : checkCall g marks .given .number ≡ 1 → checkCall g marks .marks ≡ marks
+  unfolding checkCall
+  untouched = go (sizesRight g (length marks))
+    where
+      go : (t : Bool) → cond {A = CheckSeen} t (record { given = contents g; marks = cleared (g .counts .rows) marks }) (record { given = badSizes; marks = marks }) .given .number ≡ 1
+          → cond {A = CheckSeen} t (record { given = contents g; marks = cleared (g .counts .rows) marks }) (record { given = badSizes; marks = marks }) .marks ≡ marks
+      go true e = absurd (not-sizes e)
+      go false e = refl
+
+  clear : (checkCall g marks .given .number ≡ 1 → ⊥) → checkCall g marks .marks ≡ cleared (g .counts .rows) marks
+  unfolding checkCall
+  clear = go (sizesRight g (length marks))
+    where
+      go : (t : Bool) → (cond {A = CheckSeen} t (record { given = contents g; marks = cleared (g .counts .rows) marks }) (record { given = badSizes; marks = marks }) .given .number ≡ 1 → ⊥)
+          → cond {A = CheckSeen} t (record { given = contents g; marks = cleared (g .counts .rows) marks }) (record { given = badSizes; marks = marks }) .marks ≡ cleared (g .counts .rows) marks
+      go true h = refl
+      go false h = absurd (h refl)
+
   pub exact : Exact g marks
   exact =
       record {
@@ -255,6 +282,8 @@ module _ (g : Lent) (marks : List ℕ) where
         refuses-entry = λ s r n. refuses-entry judgement s r n;
         refused-entry = λ e. refused-entry judgement e;
         names = λ s n. names judgement s n;
+        untouched = untouched;
+        clear = clear;
       }
     where
       accepts : {p : Given} → Judged g marks p → Sized g (length marks) → WellFormed g → p ≡ done

@@ -26,6 +26,10 @@ abbrev pub lent : List ℕ → List ℕ → List ℕ → List ℕ → List ℕ �
 lent rows inputs latches constraints bads outputs ends edges fairness counts =
     record { rows = rows; inputs = inputs; latches = latches; constraints = constraints; bads = bads; outputs = outputs; ends = ends; edges = edges; fairness = fairness; counts = counts }
 
+-- nothing is counted: a graph that is not there, and where the lists of an output graph start
+abbrev pub noCounts : Counts
+noCounts = record { rows = 0; inputs = 0; latches = 0; constraints = 0; bads = 0; outputs = 0; sets = 0; edges = 0; fairness = 0 }
+
 -- no answer 1: "used rows 0 or above the lent rows, a limit passed by rows or a list, a list count above its room, or work marks .. shorter than the used rows"
 unfoldable pub sizesRight : Lent → ℕ → Bool
 sizesRight g marks =

@@ -12,9 +12,12 @@ latchWords = 3
 abbrev pub latchesLent : List ℕ → ℕ
 latchesLent latches = length latches / latchWords
 
+abbrev pub latch : ℕ → ℕ → ℕ → Latch
+latch input next init = record { input = input; next = next; init = init }
+
 abbrev pub latchAt : List ℕ → ℕ → Latch
 latchAt latches i =
-    record { input = getD latches (latchWords * i) 0; next = getD latches (latchWords * i + 1) 0; init = getD latches (latchWords * i + 2) 0 }
+    latch (getD latches (latchWords * i) 0) (getD latches (latchWords * i + 1) 0) (getD latches (latchWords * i + 2) 0)
 
 -- latch i is written: its words stand where `latchAt` reads them
 unfoldable pub latchSet : List ℕ → ℕ → Latch → List ℕ

@@ -1,5 +1,6 @@
 pub mod Search
 pub mod Stages
+pub mod Count
 pub mod Latches
 pub mod Leaves
 pub mod Justice

@@ -1,7 +1,7 @@
 -- The search for the first bad place, which every stage of the check is an instance of.
 -- Assumes nothing.
 use Prim.Native.Nat.{ℕ, zero, suc, _+_}
-use mathlib.Core.Bool.{Bool, cond}
+use mathlib.Core.Bool.{Bool, true, false, cond}
 use Rattle.graph.specs.declared.search.Found.{Found}
 use Rattle.graph.specs.declared.search.Found.the-variants.{At, Nothing}
 
@@ -9,3 +9,7 @@ use Rattle.graph.specs.declared.search.Found.the-variants.{At, Nothing}
 unfoldable pub firstBad : (ℕ → Bool) → ℕ → ℕ → Found
 firstBad good i zero = Nothing
 firstBad good i (suc n) = cond (good i) (firstBad good (i + 1) n) (At i)
+
+abbrev pub nothingFound : Found → Bool
+nothingFound (At i) = false
+nothingFound Nothing = true

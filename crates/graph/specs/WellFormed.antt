@@ -12,7 +12,7 @@ use Rattle.rows.specs.Rows.{none, leafAt, AllRows}
 use Rattle.graph.specs.Latches.{latchAt, latchInputs}
 use Rattle.graph.specs.Graph.{Lent, Sized}
 use Rattle.graph.specs.Stages.{Names}
-use Rattle.graph.specs.Check.{stages, checkCall}
+use Rattle.graph.specs.Check.{stages, cleared, checkCall}
 
 -- It is meant for a graph whose sizes are right: past the end of a list a word counts as 0.
 
@@ -65,3 +65,6 @@ pub record Exact (g : Lent) (marks : List ℕ) : Type 0 where
   pub refused-entry : checkCall g marks .given .number ≡ 3 → Sized g (length marks) × AllRows (g .rows) (g .counts .rows) × (WellFormed g → ⊥)
   -- the place: nothing before it is bad, and it is
   pub names : Sized g (length marks) → (WellFormed g → ⊥) → Names (stages g) (checkCall g marks .given)
+  -- the marks: "Work marks are zero at exit over the rows used at entry, except after 1, when they are untouched"
+  pub untouched : checkCall g marks .given .number ≡ 1 → checkCall g marks .marks ≡ marks
+  pub clear : (checkCall g marks .given .number ≡ 1 → ⊥) → checkCall g marks .marks ≡ cleared (g .counts .rows) marks

@@ -11,7 +11,7 @@ mod two;
 
 pub use two::check_two;
 ghost use mathlib.Core.Path.{_≡_};
-ghost use Rattle.graph.specs.Graph.{lent};
+ghost use Rattle.graph.specs.Graph.{lent, noCounts};
 ghost use Rattle.graph.specs.Check.{checkSeen, checkCall};
 use contents::check_contents;
 use edge::Answer;
@@ -28,6 +28,23 @@ pub struct Counts {
     pub sets: usize,
     pub edges: usize,
     pub fairness: usize,
+}
+
+// Nothing is counted: where the lists of an output graph start.
+pub fn no_counts() -> Counts
+    ensures { λ r. ⌜ r ≡ noCounts ⌝ }
+{
+    Counts {
+        rows: 0,
+        inputs: 0,
+        latches: 0,
+        constraints: 0,
+        bads: 0,
+        outputs: 0,
+        sets: 0,
+        edges: 0,
+        fairness: 0,
+    }
 }
 
 // Is this a well-formed graph? Done, or 1, 2 or 3 with the place of the first fault.

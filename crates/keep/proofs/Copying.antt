@@ -11,9 +11,9 @@ use lib.Dec.{eqb}
 use Rattle.edge.specs.Edges.{idOf}
 use Rattle.rows.specs.Rows.{none, word0, word1, gateAt}
 use Rattle.rows.proofs.Laws.{gate-below}
-use Rattle.renumber.specs.Count.{countBelow}
+use Rattle.graph.specs.Count.{countBelow}
 use Rattle.renumber.specs.Renumber.{renamed, Known}
-use Rattle.renumber.proofs.Counting.{count-past, count-same}
+use Rattle.graph.proofs.Counting.{count-past, count-same}
 use Rattle.keep.specs.Keeping.{keptWritten, wordPut}
 use Rattle.keep.specs.Copying.{rowWord, rowPut}
 use Rattle.keep.specs.Ready.{WordReady}

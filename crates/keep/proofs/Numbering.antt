@@ -13,11 +13,11 @@ use borrow.Author.Tests.{eq-eqb, ne-eqb}
 use Rattle.edge.proofs.Tests.{lt-or-le}
 use Rattle.rows.specs.Sizes.{maxRows}
 use Rattle.roots.specs.Flags.{Flagged, Flags}
-use Rattle.renumber.specs.Count.{countBelow}
+use Rattle.graph.specs.Count.{countBelow}
 use Rattle.renumber.specs.Writing.{written}
 use Rattle.renumber.specs.Renumber.{by}
 use Rattle.renumber.specs.Map.{Holds, Small}
-use Rattle.renumber.proofs.Counting.{count-more, count-within, count-past, count-same}
+use Rattle.graph.proofs.Counting.{count-more, count-within, count-past, count-same}
 use Rattle.renumber.proofs.Writing.{written-length, written-turn, written-after, written-at}
 use Rattle.keep.specs.Keeping.{keptRow, newId, newIds, numbered, keptInput}
 

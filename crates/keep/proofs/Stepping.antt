@@ -8,8 +8,7 @@ use lib.ListN.{length, getD}
 use Rattle.rows.specs.Sizes.{maxRows}
 use Rattle.graph.specs.declared.Counts.{Counts}
 use Rattle.roots.specs.Flags.{Flagged, Flags}
-use Rattle.renumber.specs.Count.{countBelow}
-use Rattle.renumber.specs.Renumber.{by}
+use Rattle.graph.specs.Count.{countBelow}
 use Rattle.renumber.specs.Map.{Holds}
 use Rattle.keep.specs.Kept.{keptCone}
 use Rattle.keep.specs.Keeping.{keptRow, newId, newIds, numbered, keptInput, withKept, keptCounts}

@@ -6,7 +6,7 @@ use mathlib.Core.Bool.{Bool, cond, not, _||_}
 use lib.ListN.{length, getD, set}
 use lib.Dec.{eqb}
 use Rattle.graph.specs.declared.Counts.{Counts}
-use Rattle.renumber.specs.Count.{countBelow}
+use Rattle.graph.specs.Count.{countBelow}
 use Rattle.renumber.specs.Writing.{written}
 use Rattle.renumber.specs.Renumber.{by}
 

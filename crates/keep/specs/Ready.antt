@@ -11,7 +11,7 @@ use Rattle.graph.specs.Latches.{latchWords, latchAt}
 use Rattle.graph.specs.Leaves.{usedEdge}
 use Rattle.roots.specs.Arguments.{every}
 use Rattle.roots.specs.Roots.{rootsIn, RootsFit}
-use Rattle.renumber.specs.Count.{countBelow}
+use Rattle.graph.specs.Count.{countBelow}
 use Rattle.renumber.specs.Renumber.{Known, Mapped}
 use Rattle.keep.specs.Keeping.{numbered, keptInput}
 

@@ -4,7 +4,7 @@ ghost use Prim.Native.Nat.{_≤_, _<_};
 ghost use lib.ListN.{length};
 ghost use Rattle.rows.specs.Sizes.{maxRows};
 ghost use Rattle.roots.specs.Flags.{Flags};
-ghost use Rattle.renumber.specs.Count.{countBelow};
+ghost use Rattle.graph.specs.Count.{countBelow};
 ghost use Rattle.keep.specs.Keeping.{keptRow, newIds, numbered, keptInput, withKept};
 ghost use Rattle.keep.specs.Ready.{IdsThere};
 use graph::Counts;

@@ -22,7 +22,8 @@ use Rattle.renumber.specs.declared.Rebuilt.{Rebuilt}
 use Rattle.renumber.specs.Room.{hasRoom}
 use Rattle.renumber.proofs.Fitting.{roomy, room-true}
 use Rattle.merge.specs.Merge.{summed, merged, MergeLent, Addable}
-use Rattle.merge.specs.Call.{mergeChecked, mergeSeen, mergeCall}
+use Rattle.renumber.specs.Seen.{rebuiltSeen}
+use Rattle.merge.specs.Call.{mergeChecked, mergeCall}
 use Rattle.merge.proofs.Ready.{addable}
 
 -- a graph whose counts were summed
@@ -104,7 +105,7 @@ module _ (a b : Lent) (marks : List ℕ) where
     abbrev rebuilt : Counts → Rebuilt
     rebuilt n = record { answer = r; counts = n }
 
-    pub merge-refused : not d ≡ true → mergeSeen (rebuilt (a .counts)) a after ≡ mergeCall a b marks
+    pub merge-refused : not d ≡ true → rebuiltSeen (rebuilt (a .counts)) a after ≡ mergeCall a b marks
     unfolding mergeCall
     merge-refused h = rw (test-refused told-so test h, told-so, left)
 
@@ -118,6 +119,6 @@ module _ (a b : Lent) (marks : List ℕ) where
       pub ready : {n : ℕ} → length marks ≡ n → MergeLent a b n
       ready e = rw e at (merge-accepted free)
 
-      pub merge-done : (n : Counts) {g : Lent} {last : List ℕ} → g ≡ merged a b → last ≡ cleared (b .counts .rows) after → mergeSeen (rebuilt n) g last ≡ mergeCall a b marks
+      pub merge-done : (n : Counts) {g : Lent} {last : List ℕ} → g ≡ merged a b → last ≡ cleared (b .counts .rows) after → rebuiltSeen (rebuilt n) g last ≡ mergeCall a b marks
       unfolding mergeCall
       merge-done n e w = rw (is-done, told-so, e, w ∙ (ap (cleared (b .counts .rows)) left ∙ still-clear free))

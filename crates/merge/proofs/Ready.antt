@@ -11,7 +11,7 @@ use lib.Seq.{getD-drop, take-all}
 use lib.Dec.{eqb}
 use Rattle.rows.specs.Sizes.{maxRows}
 use Rattle.graph.specs.declared.Counts.{Counts}
-use Rattle.graph.specs.Graph.{Lent, lent, Sized}
+use Rattle.graph.specs.Graph.{Lent, Sized}
 use Rattle.graph.specs.Check.{cleared}
 use Rattle.renumber.specs.Writing.{written}
 use Rattle.renumber.specs.Renumber.{edgesOf, idsOf, Lists, listsOf, renumber, graphOf, by, IdsReady, EdgesReady, ListsReady}

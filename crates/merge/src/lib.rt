@@ -7,7 +7,8 @@ ghost use Rattle.graph.specs.Graph.{lent};
 ghost use Rattle.graph.specs.Check.{cleared, checkSeen};
 ghost use Rattle.renumber.specs.Writing.{written};
 ghost use Rattle.merge.specs.Merge.{shifted as shiftedBy, summed, merged, MergeLent, Addable};
-ghost use Rattle.merge.specs.Call.{mergeChecked, mergeSeen, mergeCall};
+ghost use Rattle.renumber.specs.Seen.{rebuiltSeen};
+ghost use Rattle.merge.specs.Call.{mergeChecked, mergeCall};
 use edge::Answer;
 use graph::Counts;
 use graph::marks::clear;
@@ -228,7 +229,7 @@ pub fn merge(
     marks: &mut [u32],
 ) -> Rebuilt
     ensures { λ r. ⌜
-        mergeSeen r
+        rebuiltSeen r
         (lent (now (rows .exit)) (now (inputs .exit)) (now (latches .exit)) (now (constraints .exit)) (now (bads .exit)) (now (outputs .exit)) (now (ends .exit)) (now (edges .exit)) (now (fairness .exit)) (r .counts))
         (now (marks .exit))
         ≡ mergeCall

@@ -20,12 +20,13 @@ use Rattle.graph.specs.Leaves.{member}
 use Rattle.graph.specs.Graph.{Lent, Sized}
 use Rattle.graph.specs.WellFormed.{listed, WellFormed}
 use Rattle.graph.proofs.Listed.{is-member}
-use Rattle.build.specs.Gates.{first as firstEdge, second as secondEdge}
+use Rattle.gates.specs.Gates.{first as firstEdge, second as secondEdge}
 use Rattle.renumber.specs.Renumber.{renamed, renamedLatch}
 use Rattle.renumber.specs.Room.{Limited, Room}
-use Rattle.renumber.proofs.Counting.{count-none, count-from}
+use Rattle.graph.proofs.Counting.{count-none, count-from}
 use Rattle.renumber.proofs.Fitting.{limits-true}
-use Rattle.reencode.specs.Numbers.{firstGate, gatesBelow, newId, orphanAt, orphans}
+use Rattle.graph.specs.Count.{gatesBelow}
+use Rattle.reencode.specs.Numbers.{firstGate, newId, orphanAt, orphans}
 use Rattle.reencode.specs.Rebuilding.{rowsOf, reencoded}
 use Rattle.reencode.specs.Call.{reencodeCall}
 use Rattle.reencode.specs.Meaning.{SameGraph, Settled}

@@ -22,14 +22,15 @@ use Rattle.graph.proofs.Marked.{marks-none, cleared-again}
 use Rattle.graph.proofs.WellFormed.{exact}
 use Rattle.roots.specs.Arguments.{argsCall}
 use Rattle.roots.proofs.Arguments.{args-room, args-bad, args-told, args-accepted, args-accepts, args-cleared}
-use Rattle.renumber.specs.Count.{countBelow}
+use Rattle.graph.specs.Count.{countBelow}
 use Rattle.renumber.specs.declared.Rebuilt.{Rebuilt}
 use Rattle.renumber.specs.Room.{limits, hasRoom, Room}
 use Rattle.renumber.proofs.Fitting.{roomy, room-true}
 use Rattle.reencode.specs.Numbers.{orphans}
 use Rattle.reencode.specs.Rebuilding.{reencoded}
 use Rattle.reencode.specs.Ready.{Ready}
-use Rattle.reencode.specs.Call.{noOrphan, reencodeAsked, reencodeChecked, reencodeSeen, reencodeCall}
+use Rattle.renumber.specs.Seen.{rebuiltSeen}
+use Rattle.reencode.specs.Call.{noOrphan, reencodeAsked, reencodeChecked, reencodeCall}
 use Rattle.reencode.proofs.Leaving.{leaves-counted}
 
 -- ---- the answer, and the marks
@@ -145,7 +146,7 @@ module _ (g out : Lent) (marks : List ℕ) (a : Answer) {after : List ℕ} (seen
   is-done : d ≡ eqb (reencodeChecked g out marks .given .number) 0
   is-done = test ∙ ap (λ (t : Given). eqb (t .number) 0) told-so
 
-  pub call-refused : d ≡ false → (r : Rebuilt) → r .answer ≡ a → reencodeSeen r out after ≡ reencodeCall g out marks
+  pub call-refused : d ≡ false → (r : Rebuilt) → r .answer ≡ a → rebuiltSeen r out after ≡ reencodeCall g out marks
   unfolding reencodeCall
   call-refused h r e = rw (sym is-done ∙ h, e, told-so, marks-so)
 
@@ -169,7 +170,7 @@ module _ (g out : Lent) (marks : List ℕ) (a : Answer) {after : List ℕ} (seen
           zeros = λ x m. rw marks-cleared (eqb-true (getD (cleared (g .counts .rows) marks) x 0) 0 (zero-mark (g .counts .rows) marks x m));
         }
 
-    pub call-done : {graph : Lent} → graph ≡ reencoded g out → {last : List ℕ} → last ≡ cleared (g .counts .rows) after → (r : Rebuilt) → r .answer ≡ a → reencodeSeen r graph last ≡ reencodeCall g out marks
+    pub call-done : {graph : Lent} → graph ≡ reencoded g out → {last : List ℕ} → last ≡ cleared (g .counts .rows) after → (r : Rebuilt) → r .answer ≡ a → rebuiltSeen r graph last ≡ reencodeCall g out marks
     unfolding reencodeCall
     call-done p {last} q r e =
         let m : last ≡ reencodeChecked g out marks .marks = q ∙ (ap (cleared (g .counts .rows)) marks-cleared ∙ (cleared-again (g .counts .rows) marks (cleared (g .counts .rows) marks) refl ∙ (sym marks-cleared ∙ marks-so))) in

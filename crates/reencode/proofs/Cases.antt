@@ -13,10 +13,10 @@ use Rattle.graph.specs.Leaves.{member, freeLeaf, latchEdges}
 use Rattle.graph.specs.Justice.{endIs, setOf}
 use Rattle.graph.specs.Graph.{Lent, lent, sizesRight}
 use Rattle.graph.specs.Check.{contents, checkCall}
-use Rattle.build.specs.Gates.{rowAdded}
+use Rattle.gates.specs.Gates.{rowAdded}
 use Rattle.roots.specs.Arguments.{argsCall}
 use Rattle.renumber.specs.Writing.{written}
-use Rattle.renumber.specs.Count.{countBelow}
+use Rattle.graph.specs.Count.{countBelow}
 use Rattle.renumber.specs.Renumber.{renamed, renamedLatch, latchesWritten, renumber}
 use Rattle.renumber.specs.Room.{limitsOf, roomOf}
 use Rattle.reencode.specs.Numbers.{placeFrom, numbered, numberOf}

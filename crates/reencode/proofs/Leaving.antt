@@ -16,9 +16,9 @@ use Rattle.graph.specs.Leaves.{member}
 use Rattle.graph.specs.Graph.{Lent, Sized}
 use Rattle.graph.specs.WellFormed.{UsedLeaf, listed, WellFormed}
 use Rattle.graph.proofs.Listed.{stands, all-long, input-at, latch-at}
-use Rattle.renumber.specs.Count.{countBelow}
-use Rattle.renumber.proofs.Counting.{count-either, count-members}
-use Rattle.reencode.specs.Numbers.{firstGate, gatesBelow, orphanAt, orphans}
+use Rattle.graph.specs.Count.{countBelow, gatesBelow}
+use Rattle.graph.proofs.Counting.{count-either, count-members}
+use Rattle.reencode.specs.Numbers.{firstGate, orphanAt, orphans}
 
 -- ---- row 0 is no leaf and no gate
 pub zero-no-gate : (rows : List ℕ) → gateAt rows 0 ≡ false

@@ -12,8 +12,9 @@ use Rattle.graph.specs.Leaves.{member}
 use Rattle.graph.specs.Graph.{Lent, Sized}
 use Rattle.graph.specs.WellFormed.{UsedLeaf, listed, WellFormed}
 use Rattle.graph.proofs.Listed.{Stands, stands}
-use Rattle.renumber.proofs.Counting.{count-past, count-apart, counted, none-counted}
-use Rattle.reencode.specs.Numbers.{placeIn, firstGate, gatesBelow, numberOf, newId, orphanAt, orphans}
+use Rattle.graph.proofs.Counting.{count-past, count-apart, counted, none-counted}
+use Rattle.graph.specs.Count.{gatesBelow}
+use Rattle.reencode.specs.Numbers.{placeIn, firstGate, numberOf, newId, orphanAt, orphans}
 use Rattle.reencode.specs.Meaning.{CameFrom, OneToOne}
 use Rattle.reencode.proofs.Placing.{place-none, place-at}
 use Rattle.reencode.proofs.Numbering.{gate-number, other-number}

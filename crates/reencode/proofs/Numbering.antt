@@ -14,12 +14,13 @@ use Rattle.edge.specs.Edges.{idOf}
 use Rattle.rows.specs.Sizes.{maxRows}
 use Rattle.rows.specs.Rows.{word0, word1, gateAt}
 use Rattle.rows.proofs.Laws.{gate-below}
-use Rattle.build.specs.Gates.{addGate}
+use Rattle.gates.specs.Gates.{addGate}
 use Rattle.renumber.specs.Renumber.{renamed, by}
 use Rattle.renumber.specs.Map.{Holds, Small}
-use Rattle.renumber.proofs.Counting.{count-more, count-rises}
+use Rattle.graph.proofs.Counting.{count-more, count-rises}
 use Rattle.renumber.proofs.Mapping.{renamed-by, known}
-use Rattle.reencode.specs.Numbers.{gatesBelow, numbered}
+use Rattle.graph.specs.Count.{gatesBelow}
+use Rattle.reencode.specs.Numbers.{numbered}
 use Rattle.reencode.specs.Rebuilding.{gateAdded, gatesAdded}
 use Rattle.reencode.specs.Ready.{GateReady, GatesReady}
 

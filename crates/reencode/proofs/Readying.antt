@@ -8,18 +8,18 @@ use lib.ListN.{length, getD, drop, replicate}
 use Rattle.rows.specs.Sizes.{maxRows}
 use Rattle.graph.specs.declared.Counts.{Counts}
 use Rattle.graph.specs.Latches.{latchAt}
-use Rattle.graph.specs.Graph.{Lent, lent, Sized}
+use Rattle.graph.specs.Graph.{Lent, lent, Sized, noCounts}
 use Rattle.graph.specs.Check.{cleared}
 use Rattle.graph.specs.WellFormed.{WellFormed}
 use Rattle.graph.proofs.Listed.{all-long, input-at, latch-at}
 use Rattle.renumber.specs.Writing.{written}
 use Rattle.renumber.specs.Renumber.{idsOf, Lists, lists, listsOf, renumber, graphOf, by, IdsReady, ListsReady}
 use Rattle.renumber.specs.Map.{Holds, Small}
-use Rattle.renumber.specs.Room.{noEntries}
 use Rattle.renumber.proofs.Writing.{written-same}
 use Rattle.renumber.proofs.Mapping.{lists-used, renumber-by, known, lists-ready}
 use Rattle.renumber.proofs.Fitting.{lists-room}
-use Rattle.reencode.specs.Numbers.{placeIn, leafList, firstGate, gatesBelow, numbered, numberOf, newId, placed}
+use Rattle.graph.specs.Count.{gatesBelow}
+use Rattle.reencode.specs.Numbers.{placeIn, leafList, firstGate, numbered, numberOf, newId, placed}
 use Rattle.reencode.specs.Rebuilding.{leavesAdded, gatesAdded, rowsOf, reencoded}
 use Rattle.reencode.specs.Ready.{IdsMarked, GatesReady, RowsReady, Ready}
 use Rattle.reencode.proofs.Placing.{placed-length, placed-same, placed-split, placed-beyond, place-bound, places-hold}
@@ -142,21 +142,21 @@ module _ (g out : Lent) (marks : List ℕ) (r : Ready g out marks) where
           known = λ j l. known (g .counts .rows) (newId g) map h small long′ (getD (g .inputs) j 0) (r .well-formed .inputs j l .0);
         }
 
-    pub to-lists : {at : Counts} → at ≡ noEntries → (at .edges < 2 ^ 32) × ListsReady map (listsOf out) at (listsOf g) (g .counts)
+    pub to-lists : {at : Counts} → at ≡ noCounts → (at .edges < 2 ^ 32) × ListsReady map (listsOf out) at (listsOf g) (g .counts)
     to-lists e =
         rw e (
           omega arith,
-          lists-ready (g .counts .rows) (newId g) map h small long′ (listsOf out) noEntries (listsOf g) (g .counts) (lists-used g (r .marked) (r .sized) (r .well-formed)) (lists-room out (g .counts) (r .room)) (omega arith),
+          lists-ready (g .counts .rows) (newId g) map h small long′ (listsOf out) noCounts (listsOf g) (g .counts) (lists-used g (r .marked) (r .sized) (r .well-formed)) (lists-room out (g .counts) (r .room)) (omega arith),
         )
 
-    pub all-written : {at : Counts} → at ≡ noEntries → {a b c d e f i j k : List ℕ} → a ≡ rowsOf (g .rows) (g .inputs) (g .latches) (g .counts) (out .rows)
+    pub all-written : {at : Counts} → at ≡ noCounts → {a b c d e f i j k : List ℕ} → a ≡ rowsOf (g .rows) (g .inputs) (g .latches) (g .counts) (out .rows)
         → b ≡ written (out .inputs) 0 (idsOf (by map) (g .inputs)) (g .counts .inputs) → lists c d e f i j k ≡ renumber (by map) (listsOf out) at (listsOf g) (g .counts)
         → lent a b c d e f i j k (g .counts) ≡ reencoded g out
     unfolding reencoded
     all-written n {a} {b} p q t =
         let q′ = q ∙ written-same (out .inputs) 0 (idsOf (by map) (g .inputs)) (idsOf (newId g) (g .inputs)) (g .counts .inputs) (λ j l. h (getD (g .inputs) j 0) (r .well-formed .inputs j l .0)) in
         let t′ = t ∙ (ap (λ (x : Counts). renumber (by map) (listsOf out) x (listsOf g) (g .counts)) n
-        ∙ renumber-by (g .counts .rows) (newId g) map h (listsOf out) noEntries (listsOf g) (g .counts) (lists-used g (r .marked) (r .sized) (r .well-formed))) in
+        ∙ renumber-by (g .counts .rows) (newId g) map h (listsOf out) noCounts (listsOf g) (g .counts) (lists-used g (r .marked) (r .sized) (r .well-formed))) in
         ap (λ (l : Lists). graphOf a b l (g .counts)) t′ ∙ rw (p, q′)
 
 pub cleared-same : (n : ℕ) (old new : List ℕ) {last : List ℕ} → drop n new ≡ drop n old → last ≡ cleared n new → last ≡ cleared n old

@@ -17,21 +17,22 @@ use Rattle.rows.proofs.Laws.{gate-below}
 use Rattle.rows.proofs.Value.{leaf-no-gate}
 use Rattle.graph.specs.declared.latch.Latch.{Latch}
 use Rattle.graph.specs.Latches.{latchAt}
-use Rattle.graph.specs.Graph.{Lent, Sized}
+use Rattle.graph.specs.Graph.{Lent, Sized, noCounts}
 use Rattle.graph.specs.WellFormed.{listed, WellFormed}
 use Rattle.graph.proofs.Listed.{all-long, input-at, latch-at}
-use Rattle.build.specs.Gates.{first as firstEdge, second as secondEdge}
-use Rattle.build.proofs.Growing.{order-used, is-gate}
+use Rattle.gates.specs.Gates.{first as firstEdge, second as secondEdge}
+use Rattle.gates.proofs.Growing.{order-used, is-gate}
 use Rattle.renumber.specs.Renumber.{renamed, renamedLatch, idsOf, edgesOf, endsOf, listsOf, renumber}
-use Rattle.renumber.specs.Room.{noEntries, Limited, Room}
+use Rattle.renumber.specs.Room.{Limited, Room}
 use Rattle.renumber.specs.Entries.{Renumbered}
 use Rattle.renumber.specs.Meaning.{Carried}
 use Rattle.renumber.proofs.Writing.{written-length, written-at, latches-length}
 use Rattle.renumber.proofs.Carrying.{renamed-row, same-values}
-use Rattle.renumber.proofs.Counting.{Counted, counted}
+use Rattle.graph.proofs.Counting.{Counted, counted}
 use Rattle.renumber.proofs.Fitting.{lists-room}
 use Rattle.renumber.proofs.Entering.{renumbered}
-use Rattle.reencode.specs.Numbers.{firstGate, gatesBelow, newId, orphans}
+use Rattle.graph.specs.Count.{gatesBelow}
+use Rattle.reencode.specs.Numbers.{firstGate, newId, orphans}
 use Rattle.reencode.specs.Rebuilding.{leavesAdded, rowsOf, reencoded}
 use Rattle.reencode.specs.Meaning.{InOrder, Renewed}
 use Rattle.reencode.proofs.Standing.{Row, leaves-long, zero-stands, leaf-stands, gates-long, below-stands, gate-stands}
@@ -202,9 +203,9 @@ module _ (g out : Lent) (marks : ℕ) (s : Sized g marks) (w : WellFormed g) (no
       rw (← (gate-to i l u), r .first, r .second) o
 
   -- ---- the lists
-  pub entries : Renumbered m noEntries (listsOf g) (g .counts) (listsOf new)
+  pub entries : Renumbered m noCounts (listsOf g) (g .counts) (listsOf new)
   unfolding reencoded
-  entries = renumbered m (listsOf out) noEntries (listsOf g) (g .counts) (lists-room out (g .counts) room)
+  entries = renumbered m (listsOf out) noCounts (listsOf g) (g .counts) (lists-room out (g .counts) room)
 
   pub input-entry : (j : ℕ) → j < g .counts .inputs → getD (new .inputs) j 0 ≡ m (getD (g .inputs) j 0)
   unfolding reencoded

@@ -10,7 +10,7 @@ use Rattle.rows.specs.Rows.{leafAt}
 use Rattle.graph.specs.Leaves.{member}
 use Rattle.graph.specs.Graph.{Lent}
 use Rattle.graph.specs.WellFormed.{UsedLeaf, listed}
-use Rattle.renumber.proofs.Counting.{count-none}
+use Rattle.graph.proofs.Counting.{count-none}
 use Rattle.renumber.proofs.Fitting.{limited, limits-true}
 use Rattle.reencode.specs.Numbers.{orphanAt, orphans}
 use Rattle.reencode.specs.Rebuilding.{reencoded}

@@ -10,12 +10,12 @@ use mathlib.Core.List.{List}
 use lib.ListN.{length}
 use Rattle.rows.specs.Sizes.{rowsLent}
 use Rattle.rows.specs.Rows.{word0, word1, falseWord, none, gateAt}
-use Rattle.build.specs.Gates.{rowAdded, first as firstEdge, second as secondEdge, addGate}
-use Rattle.build.proofs.Building.{row-long}
-use Rattle.build.proofs.Growing.{row-kept, row-first, row-second}
+use Rattle.gates.specs.Gates.{rowAdded, first as firstEdge, second as secondEdge, addGate}
+use Rattle.gates.proofs.Building.{row-long}
+use Rattle.gates.proofs.Growing.{row-kept, row-first, row-second}
 use Rattle.renumber.specs.Renumber.{renamed}
-use Rattle.renumber.proofs.Counting.{count-more, count-past}
-use Rattle.reencode.specs.Numbers.{gatesBelow}
+use Rattle.graph.proofs.Counting.{count-more, count-past}
+use Rattle.graph.specs.Count.{gatesBelow}
 use Rattle.reencode.specs.Rebuilding.{leavesAdded, gateAdded, gatesAdded}
 
 -- row r of a table is the words a and b

@@ -10,11 +10,11 @@ use borrow.Author.Tests.{not-true, not-false}
 use Rattle.edge.specs.Edges.{idOf}
 use Rattle.rows.specs.Rows.{none, word0, word1, gateAt}
 use Rattle.rows.proofs.Laws.{gate-below}
-use Rattle.build.specs.declared.gates.Grown.{Grown}
-use Rattle.build.specs.Gates.{State, stateOf, rowAdded, addGate}
+use Rattle.gates.specs.declared.Grown.{Grown}
+use Rattle.gates.specs.Gates.{State, stateOf, rowAdded, addGate}
 use Rattle.renumber.specs.Renumber.{renamed, Known, Mapped}
-use Rattle.renumber.specs.Count.{countBelow}
-use Rattle.renumber.proofs.Counting.{count-more}
+use Rattle.graph.specs.Count.{countBelow}
+use Rattle.graph.proofs.Counting.{count-more}
 use Rattle.reencode.specs.Rebuilding.{leavesAdded, gateAdded}
 
 -- ---- counting

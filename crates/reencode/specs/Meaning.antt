@@ -10,10 +10,10 @@ use Rattle.edge.specs.Answers.{done}
 use Rattle.rows.specs.Rows.{word0, word1, gateAt}
 use Rattle.graph.specs.Leaves.{member}
 use Rattle.graph.specs.Latches.{latchAt}
-use Rattle.graph.specs.Graph.{Lent, Sized}
+use Rattle.graph.specs.Graph.{Lent, Sized, noCounts}
 use Rattle.graph.specs.WellFormed.{UsedLeaf, listed, WellFormed}
 use Rattle.renumber.specs.Renumber.{listsOf}
-use Rattle.renumber.specs.Room.{noEntries, Limited, Room}
+use Rattle.renumber.specs.Room.{Limited, Room}
 use Rattle.renumber.specs.Entries.{Renumbered}
 use Rattle.renumber.specs.Meaning.{Carried, SameValues}
 use Rattle.reencode.specs.Numbers.{newId}
@@ -53,7 +53,7 @@ pub record Renewed (g after : Lent) : Type 0 where
   pub values : SameValues (newId g) (λ (i : ℕ). i < g .counts .rows) (g .rows) (g .counts .rows) (after .rows)
   -- every entry of every list: it is the same row or edge, numbered anew, and so has the same value
   pub inputs : (j : ℕ) → j < g .counts .inputs → getD (after .inputs) j 0 ≡ newId g (getD (g .inputs) j 0)
-  pub lists : Renumbered (newId g) noEntries (listsOf g) (g .counts) (listsOf after)
+  pub lists : Renumbered (newId g) noCounts (listsOf g) (g .counts) (listsOf after)
   pub in-order : InOrder g after
   -- the result may be given to any call
   pub sized : (marks : ℕ) → g .counts .rows ≤ marks → Sized after marks

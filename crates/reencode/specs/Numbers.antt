@@ -11,7 +11,7 @@ use Rattle.graph.specs.Latches.{latchInputs}
 use Rattle.graph.specs.Leaves.{member}
 use Rattle.graph.specs.Graph.{Lent}
 use Rattle.graph.specs.WellFormed.{listed}
-use Rattle.renumber.specs.Count.{countBelow}
+use Rattle.graph.specs.Count.{countBelow, gatesBelow}
 
 -- the number of x, where the entries of a list are numbered from k on; 0 where it is no entry
 unfoldable pub placeFrom : ℕ → List ℕ → ℕ → ℕ
@@ -29,9 +29,6 @@ leafList inputs n latches m = take n inputs ++ latchInputs latches m
 -- the first gate's number: after row 0, the inputs and the latches
 abbrev pub firstGate : Counts → ℕ
 firstGate n = 1 + (n .inputs + n .latches)
-
-abbrev pub gatesBelow : List ℕ → ℕ → ℕ
-gatesBelow rows i = countBelow (gateAt rows) i
 
 -- a gate is numbered from `first` on in row order, and another row as f says
 unfoldable pub numbered : List ℕ → ℕ → (ℕ → ℕ) → ℕ → ℕ

@@ -12,7 +12,8 @@ use Rattle.graph.specs.WellFormed.{WellFormed}
 use Rattle.renumber.specs.Renumber.{Known, by}
 use Rattle.renumber.specs.Map.{Holds, Small}
 use Rattle.renumber.specs.Room.{Room}
-use Rattle.reencode.specs.Numbers.{leafList, firstGate, gatesBelow, numbered, orphans}
+use Rattle.graph.specs.Count.{gatesBelow}
+use Rattle.reencode.specs.Numbers.{leafList, firstGate, numbered, orphans}
 
 -- rows id 0 .. id (n - 1) have marks, and the numbers from k on are words
 pub record IdsMarked (marks : List ℕ) (id : ℕ → ℕ) (k n : ℕ) : Type 0 where

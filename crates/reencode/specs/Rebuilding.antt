@@ -5,13 +5,12 @@ use mathlib.Core.List.{List}
 use mathlib.Core.Bool.{cond}
 use Rattle.rows.specs.Rows.{word0, word1, gateAt}
 use Rattle.graph.specs.declared.Counts.{Counts}
-use Rattle.graph.specs.Graph.{Lent}
-use Rattle.build.specs.Gates.{addGate}
-use Rattle.build.specs.Leaves.{firstRow, leafAdded}
+use Rattle.graph.specs.Graph.{Lent, noCounts}
+use Rattle.gates.specs.Gates.{firstRow, leafAdded, addGate}
 use Rattle.renumber.specs.Writing.{written}
 use Rattle.renumber.specs.Renumber.{renamed, idsOf, listsOf, renumber, graphOf}
-use Rattle.renumber.specs.Room.{noEntries}
-use Rattle.reencode.specs.Numbers.{firstGate, gatesBelow, numberOf, newId}
+use Rattle.graph.specs.Count.{gatesBelow}
+use Rattle.reencode.specs.Numbers.{firstGate, numberOf, newId}
 
 -- row 0, and n leaves behind it
 unfoldable pub leavesAdded : List ℕ → ℕ → List ℕ
@@ -37,5 +36,5 @@ reencoded g out =
     graphOf
     (rowsOf (g .rows) (g .inputs) (g .latches) (g .counts) (out .rows))
     (written (out .inputs) 0 (idsOf (newId g) (g .inputs)) (g .counts .inputs))
-    (renumber (newId g) (listsOf out) noEntries (listsOf g) (g .counts))
+    (renumber (newId g) (listsOf out) noCounts (listsOf g) (g .counts))
     (g .counts)

@@ -5,11 +5,11 @@ ghost use lib.ListN.{length, getD};
 ghost use Rattle.rows.specs.Sizes.{maxRows};
 ghost use Rattle.rows.specs.Rows.{leafAt};
 ghost use Rattle.graph.specs.Latches.{latchWords, latchAt};
-ghost use Rattle.renumber.specs.Count.{countBelow};
+ghost use Rattle.graph.specs.Count.{countBelow};
 ghost use Rattle.reencode.specs.Numbers.{placed};
 ghost use Rattle.reencode.specs.Rebuilding.{leavesAdded};
 ghost use Rattle.reencode.specs.Ready.{IdsMarked};
-use build::gates::add_row;
+use gates::add_row;
 use graph::latch::latch_at;
 use rows::kinds;
 

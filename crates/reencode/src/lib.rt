@@ -1,5 +1,5 @@
 // A graph written anew: inputs first, then latches, then gates in row order.
-mod gates;
+mod gate_rows;
 mod leaves;
 
 ghost use mathlib.Core.Path.{_≡_};
@@ -10,11 +10,13 @@ ghost use Rattle.renumber.specs.Map.{Holds};
 ghost use Rattle.reencode.specs.Numbers.{numberOf};
 ghost use Rattle.reencode.specs.Rebuilding.{rowsOf, reencoded};
 ghost use Rattle.reencode.specs.Ready.{RowsReady, Ready};
-ghost use Rattle.reencode.specs.Call.{reencodeChecked, reencodeSeen, reencodeCall};
+ghost use Rattle.renumber.specs.Seen.{rebuiltSeen};
+ghost use Rattle.reencode.specs.Call.{reencodeChecked, reencodeCall};
 use edge::Answer;
-use gates::rebuild_gates;
+use gate_rows::rebuild_gates;
 use graph::Counts;
 use graph::marks::clear;
+use graph::no_counts;
 use leaves::count_leaves;
 use leaves::number_inputs;
 use leaves::number_latches;
@@ -22,7 +24,6 @@ use leaves::write_leaves;
 use renumber::Rebuilt;
 use renumber::output::has_room;
 use renumber::output::limits;
-use renumber::output::no_entries;
 use renumber::write_ids;
 use renumber::write_lists;
 
@@ -92,7 +93,7 @@ fn rebuild(
         ends2,
         edges2,
         fairness2,
-        no_entries(),
+        no_counts(),
         latches,
         constraints,
         bads,
@@ -210,7 +211,7 @@ pub fn reencode(
     marks: &mut [u32],
 ) -> Rebuilt
     ensures { λ r. ⌜
-        reencodeSeen r
+        rebuiltSeen r
         (lent (now (rows2 .exit)) (now (inputs2 .exit)) (now (latches2 .exit)) (now (constraints2 .exit)) (now (bads2 .exit)) (now (outputs2 .exit)) (now (ends2 .exit)) (now (edges2 .exit)) (now (fairness2 .exit)) (r .counts))
         (now (marks .exit))
         ≡ reencodeCall

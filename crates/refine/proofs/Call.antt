@@ -27,7 +27,8 @@ use Rattle.keep.specs.Kept.{keptFlags, keptConeOf}
 use Rattle.keep.specs.Keeping.{newIds, keptCounts}
 use Rattle.refine.specs.Ready.{Ready, WriteReady}
 use Rattle.refine.specs.Refining.{countsOf, refined, oldRows}
-use Rattle.refine.specs.Call.{refineAsked, refineRoom, refineAnswer, refineCall, FoundSeen, foundSeen, refineChecked}
+use Rattle.renumber.specs.Seen.{FoundSeen, foundSeen}
+use Rattle.refine.specs.Call.{refineAsked, refineRoom, refineAnswer, refineCall, refineChecked}
 use Rattle.refine.specs.Meaning.{RefineLent}
 use Rattle.refine.proofs.Stepping.{ids-are-kept, kept-ids-long, need-is, same-long, write-ready, cleared-back}
 

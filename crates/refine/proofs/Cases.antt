@@ -16,7 +16,7 @@ use Rattle.graph.specs.Check.{contents, checkCall}
 use Rattle.roots.specs.Arguments.{argsCall}
 use Rattle.coi.specs.Coi.{latchOf, stepsAt, visited, visitedAll, drained, searched}
 use Rattle.renumber.specs.Writing.{written}
-use Rattle.renumber.specs.Count.{countBelow}
+use Rattle.graph.specs.Count.{countBelow}
 use Rattle.renumber.specs.Renumber.{renamed, renamedLatch, latchesWritten, renumber}
 use Rattle.renumber.specs.Room.{limitsOf, roomOf}
 use Rattle.keep.specs.Kept.{initRoot, initRoots, refineRoots, keptFlags}

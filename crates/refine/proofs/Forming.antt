@@ -16,12 +16,12 @@ use Rattle.rows.specs.Sizes.{Fit}
 use Rattle.rows.specs.Rows.{none, leafAt}
 use Rattle.graph.specs.declared.latch.Latch.{Latch}
 use Rattle.graph.specs.Latches.{latchAt, latchInputs}
-use Rattle.graph.specs.Graph.{Lent, Sized}
+use Rattle.graph.specs.Graph.{Lent, Sized, noCounts}
 use Rattle.graph.specs.WellFormed.{UsedLeaf, listed, WellFormed}
 use Rattle.graph.proofs.Listed.{all-long, input-at, latch-at}
-use Rattle.renumber.specs.Count.{countBelow}
+use Rattle.graph.specs.Count.{countBelow}
 use Rattle.renumber.specs.Renumber.{renamed, renamedLatch, edgesOf, endsOf, idsOf, listsOf, renumber}
-use Rattle.renumber.specs.Room.{noEntries, Limited, Room}
+use Rattle.renumber.specs.Room.{Limited, Room}
 use Rattle.renumber.specs.Entries.{SameEntries, Renumbered}
 use Rattle.renumber.proofs.Writing.{written-length, latches-length}
 use Rattle.renumber.proofs.Carrying.{renamed-row}
@@ -112,7 +112,7 @@ module _ (g out : Lent) (marks : ℕ) (s : Sized g marks) (w : WellFormed g) (ro
       rw q (edge-used (getD list j 0) (u j l) (k j l))
 
   -- ---- the lists, entry by entry
-  lists : Renumbered (newRow g) noEntries (listsOf g) (g .counts) (listsOf new)
+  lists : Renumbered (newRow g) noCounts (listsOf g) (g .counts) (listsOf new)
   unfolding refined
   lists = entries g marks s w out room
 

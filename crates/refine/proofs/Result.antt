@@ -17,18 +17,18 @@ use Rattle.rows.specs.Rows.{word0, word1, none, falseWord, isFalseRow, isLeaf, 
 use Rattle.rows.proofs.Laws.{gate-below}
 use Rattle.rows.proofs.Value.{leaf-no-gate}
 use Rattle.graph.specs.Latches.{latchAt}
-use Rattle.graph.specs.Graph.{Lent, Sized}
+use Rattle.graph.specs.Graph.{Lent, Sized, noCounts}
 use Rattle.graph.specs.WellFormed.{WellFormed}
 use Rattle.coi.specs.Meaning.{IsCoi}
 use Rattle.coi.specs.Meaning.Reached.{always, latch}
 use Rattle.coi.proofs.Searching.{On, on-at}
-use Rattle.renumber.specs.Count.{countBelow}
+use Rattle.graph.specs.Count.{countBelow}
 use Rattle.renumber.specs.Renumber.{renamed, idsOf, listsOf, renumber}
 use Rattle.renumber.specs.Map.{ListsRoom}
-use Rattle.renumber.specs.Room.{noEntries, Room}
+use Rattle.renumber.specs.Room.{Room}
 use Rattle.renumber.specs.Entries.{Renumbered}
 use Rattle.renumber.specs.Meaning.{Carried, SameValues}
-use Rattle.renumber.proofs.Counting.{count-within, count-past, count-apart, Counted, counted}
+use Rattle.graph.proofs.Counting.{count-within, count-past, count-apart, Counted, counted}
 use Rattle.renumber.proofs.Carrying.{renamed-edge, same-values}
 use Rattle.renumber.proofs.Fitting.{lists-room}
 use Rattle.renumber.proofs.Entering.{renumbered}
@@ -285,11 +285,11 @@ module _ (g : Lent) (marks : ℕ) (s : Sized g marks) (w : WellFormed g) where
         }
 
     -- ---- the other lists
-    pub other-room : ListsRoom (listsOf out) noEntries (g .counts)
+    pub other-room : ListsRoom (listsOf out) noCounts (g .counts)
     unfolding withKept
     other-room =
         let t = lists-room out (countsOf g) room in
         record { latches = t .latches; constraints = t .constraints; bads = t .bads; outputs = t .outputs; ends = t .ends; edges = t .edges; fairness = t .fairness }
 
-    pub entries : Renumbered (newRow g) noEntries (listsOf g) (g .counts) (renumber (newRow g) (listsOf out) noEntries (listsOf g) (g .counts))
-    entries = renumbered (newRow g) (listsOf out) noEntries (listsOf g) (g .counts) other-room
+    pub entries : Renumbered (newRow g) noCounts (listsOf g) (g .counts) (renumber (newRow g) (listsOf out) noCounts (listsOf g) (g .counts))
+    entries = renumbered (newRow g) (listsOf out) noCounts (listsOf g) (g .counts) other-room

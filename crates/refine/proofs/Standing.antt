@@ -12,8 +12,8 @@ use lib.Seq.{getD-set-same, getD-set-other}
 use Rattle.edge.proofs.Tests.{false-true}
 use Rattle.rows.specs.Sizes.{rowsLent}
 use Rattle.rows.specs.Rows.{word0, word1}
-use Rattle.renumber.specs.Count.{countBelow}
-use Rattle.renumber.proofs.Counting.{count-past}
+use Rattle.graph.specs.Count.{countBelow}
+use Rattle.graph.proofs.Counting.{count-past}
 use Rattle.keep.specs.Keeping.{keptWritten, wordPut}
 use Rattle.keep.specs.Copying.{rowWord, rowPut, rowsKept}
 use Rattle.keep.proofs.Copying.{row-put-length}

@@ -8,17 +8,17 @@ use lib.ListN.{length, getD, drop, replicate, length-replicate, length-append, l
 use lib.Seq.{drop-at}
 use Rattle.rows.specs.Sizes.{maxRows}
 use Rattle.graph.specs.declared.Counts.{Counts}
-use Rattle.graph.specs.Graph.{Lent, Sized}
+use Rattle.graph.specs.Graph.{Lent, Sized, noCounts}
 use Rattle.graph.specs.Check.{cleared}
 use Rattle.graph.specs.WellFormed.{WellFormed}
 use Rattle.roots.specs.Flags.{Flagged}
 use Rattle.roots.proofs.Roots.{roots-known}
 use Rattle.coi.specs.Meaning.Reached.{always}
-use Rattle.renumber.specs.Count.{countBelow}
+use Rattle.graph.specs.Count.{countBelow}
 use Rattle.renumber.specs.Renumber.{idsOf, Lists, listsOf, renumber, graphOf, by, ListsReady}
 use Rattle.renumber.specs.Map.{Holds, Small}
-use Rattle.renumber.specs.Room.{noEntries, Room}
-use Rattle.renumber.proofs.Counting.{count-same}
+use Rattle.renumber.specs.Room.{Room}
+use Rattle.graph.proofs.Counting.{count-same}
 use Rattle.renumber.proofs.Mapping.{lists-used, renumber-by, known, lists-ready}
 use Rattle.renumber.proofs.Fitting.{lists-room}
 use Rattle.keep.specs.Kept.{keptFlags, keptConeOf}
@@ -144,10 +144,10 @@ module _ (g out : Lent) (old map : List ℕ) (r : WriteReady g out old map) wher
         room = omega (arith, inputs-kept flags zero-kept map used (r .holds) (g .inputs) (g .counts .inputs) input-used, r .room .inputs);
       }
 
-  pub all-ready : ListsReady map (listsOf out) noEntries (listsOf g) (g .counts)
+  pub all-ready : ListsReady map (listsOf out) noCounts (listsOf g) (g .counts)
   unfolding withKept
   all-ready =
-      lists-ready used (newId flags) map (r .holds) small (r .sized .marked) (listsOf out) noEntries (listsOf g) (g .counts)
+      lists-ready used (newId flags) map (r .holds) small (r .sized .marked) (listsOf out) noCounts (listsOf g) (g .counts)
       (lists-used g (length map) (r .sized) (r .well-formed))
       (let t = lists-room out (countsOf g) (r .room) in record { latches = t .latches; constraints = t .constraints; bads = t .bads; outputs = t .outputs; ends = t .ends; edges = t .edges; fairness = t .fairness })
       (omega arith)
@@ -168,12 +168,12 @@ module _ (g out : Lent) (old map : List ℕ) (r : WriteReady g out old map) wher
 
   pub write-done : {a b : List ℕ} {l : Lists}
       → a ≡ rowsKept (numbered map) (by map) (g .rows) (out .rows) used → b ≡ inputsKept (numbered map) (by map) (g .inputs) (out .inputs) (g .counts .inputs)
-      → l ≡ renumber (by map) (listsOf out) noEntries (listsOf g) (g .counts) → graphOf a b l (countsOf g) ≡ refined g out
+      → l ≡ renumber (by map) (listsOf out) noCounts (listsOf g) (g .counts) → graphOf a b l (countsOf g) ≡ refined g out
   unfolding refined
   write-done {a} {b} {l} p q s =
       let p′ = p ∙ rows-done in
       let q′ = q ∙ inputs-done in
-      let s′ = s ∙ renumber-by used (newId flags) map (r .holds) (listsOf out) noEntries (listsOf g) (g .counts) (lists-used g (length map) (r .sized) (r .well-formed)) in
+      let s′ = s ∙ renumber-by used (newId flags) map (r .holds) (listsOf out) noCounts (listsOf g) (g .counts) (lists-used g (length map) (r .sized) (r .well-formed)) in
       ap (λ (x : List ℕ). graphOf x b l (countsOf g)) p′
       ∙ (ap (λ (x : List ℕ). graphOf (rowsKept (keptRow flags) (newId flags) (g .rows) (out .rows) used) x l (countsOf g)) q′
       ∙ ap (λ (x : Lists). graphOf (rowsKept (keptRow flags) (newId flags) (g .rows) (out .rows) used) (inputsKept (keptRow flags) (newId flags) (g .inputs) (out .inputs) (g .counts .inputs)) x (countsOf g)) s′)

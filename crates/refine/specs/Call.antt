@@ -1,19 +1,19 @@
 -- What `coi_refine` answers and writes.
 -- Assumes nothing.
 use Prim.Native.Nat.{ℕ}
-use mathlib.Core.Path.{_≡_, ap}
+use mathlib.Core.Path.{_≡_}
 use mathlib.Core.List.{List, _++_}
 use mathlib.Core.Bool.{Bool, true, cond, _&&_}
 use lib.ListN.{length, drop}
 use lib.Dec.{leb}
 use Rattle.edge.specs.declared.answer.Given.{Given}
-use Rattle.edge.specs.Answers.{done, noRoom, told, told-injective, orElse, determined}
+use Rattle.edge.specs.Answers.{done, noRoom, orElse}
 use Rattle.rows.specs.Reading.{ifDone}
-use Rattle.graph.specs.declared.Counts.{Counts}
 use Rattle.graph.specs.Graph.{Lent}
 use Rattle.graph.specs.Check.{CheckSeen}
 use Rattle.roots.specs.Arguments.{argsCall}
 use Rattle.renumber.specs.declared.Rebuilt.{Rebuilt}
+use Rattle.renumber.specs.Seen.{FoundSeen, ListedSeen, listedSeen, SameListed, listed-determined}
 use Rattle.renumber.specs.Room.{limits, hasRoom}
 use Rattle.keep.specs.Kept.{keptFlags}
 use Rattle.keep.specs.Keeping.{newIds}
@@ -32,37 +32,18 @@ unfoldable pub refineAnswer : Lent → Lent → ℕ → List ℕ → Given
 refineAnswer g out old marks = orElse (refineAsked g out marks .given) (cond (refineRoom g out old) done noRoom)
 
 -- ---- the call
-pub record RefineSeen : Type 0 where
-  pub given : Given
-  pub graph : Lent
-  pub old : List ℕ
-  pub marks : List ℕ
-
-abbrev pub refineSeen : Rebuilt → Lent → List ℕ → List ℕ → RefineSeen
-refineSeen r graph old marks = record { given = told (r .answer); graph = graph; old = old; marks = marks }
-
 -- "A refusal changes no row, list, output or state": `out` has the output's words and the counts that were given, which then come back
-unfoldable pub refineCall : Lent → Lent → List ℕ → List ℕ → RefineSeen
+unfoldable pub refineCall : Lent → Lent → List ℕ → List ℕ → ListedSeen
 refineCall g out old marks =
     let t = refineAnswer g out (length old) marks in
     record { given = t; graph = ifDone t (refined g out) out; old = ifDone t (oldRows g old) old; marks = refineAsked g out marks .marks }
 
 -- any two results that the promise allows are equal: the answer, every lent word with the counts, the new-to-old list, and the marks
-pub coi-refine-determined : (g out : Lent) (old marks : List ℕ) (r s : Rebuilt) (a b : Lent) (o p m n : List ℕ)
-    → refineSeen r a o m ≡ refineCall g out old marks → refineSeen s b p n ≡ refineCall g out old marks → (r .answer ≡ s .answer) × (a ≡ b) × (o ≡ p) × (m ≡ n)
-coi-refine-determined g out old marks r s a b o p m n x y =
-    let t = determined (refineCall g out old) marks (refineSeen r a o m) (refineSeen s b p n) x y in
-    (told-injective (r .answer) (s .answer) (ap (λ (x : RefineSeen). x .given) t), ap (λ (x : RefineSeen). x .graph) t, ap (λ (x : RefineSeen). x .old) t, ap (λ (x : RefineSeen). x .marks) t)
+pub coi-refine-determined : (g out : Lent) (old marks : List ℕ) (r s : Rebuilt) (x y : Lent) (o p m n : List ℕ)
+    → listedSeen r x o m ≡ refineCall g out old marks → listedSeen s y p n ≡ refineCall g out old marks → SameListed r x o m s y p n
+coi-refine-determined g out old = listed-determined (refineCall g out old)
 
 -- ---- between the check and the writing
-pub record FoundSeen : Type 0 where
-  pub given : Given
-  pub counts : Counts
-  pub marks : List ℕ
-
-abbrev pub foundSeen : Rebuilt → List ℕ → FoundSeen
-foundSeen r marks = record { given = told (r .answer); counts = r .counts; marks = marks }
-
 -- where no answer is left, the counts are those of the result, and the marks of the used rows hold their new numbers
 unfoldable pub refineChecked : Lent → Lent → ℕ → List ℕ → FoundSeen
 refineChecked g out old marks =

@@ -8,14 +8,14 @@ use lib.ListN.{length, getD}
 use Rattle.edge.specs.Edges.{idOf}
 use Rattle.rows.specs.Rows.{none}
 use Rattle.graph.specs.Latches.{latchAt}
-use Rattle.graph.specs.Graph.{Lent, Sized}
+use Rattle.graph.specs.Graph.{Lent, Sized, noCounts}
 use Rattle.graph.specs.Check.{cleared}
 use Rattle.graph.specs.WellFormed.{WellFormed}
 use Rattle.roots.specs.Flags.{Flagged}
 use Rattle.coi.specs.Meaning.{IsCoi}
-use Rattle.renumber.specs.Count.{countBelow}
+use Rattle.graph.specs.Count.{countBelow}
 use Rattle.renumber.specs.Renumber.{listsOf}
-use Rattle.renumber.specs.Room.{noEntries, Limited, Room}
+use Rattle.renumber.specs.Room.{Limited, Room}
 use Rattle.renumber.specs.Entries.{Renumbered}
 use Rattle.renumber.specs.Meaning.{Carried, SameValues}
 use Rattle.keep.specs.Kept.{refineRoots, keptFlags}
@@ -75,7 +75,7 @@ pub record Refined (g after : Lent) (old : List ℕ) : Type 0 where
   pub values : SameValues (newRow g) (Kept g) (g .rows) (g .counts .rows) (after .rows)
   -- every entry of every list: it is the same edge, to a kept row, numbered anew, and so has the same value
   pub named : NamedKept g
-  pub lists : Renumbered (newRow g) noEntries (listsOf g) (g .counts) (listsOf after)
+  pub lists : Renumbered (newRow g) noCounts (listsOf g) (g .counts) (listsOf after)
   pub inputs : (k : ℕ) → k < after .counts .inputs → InputFrom g (after .inputs) k
   -- the result may be given to any call
   pub sized : (marks : ℕ) → after .counts .rows ≤ marks → Sized after marks

@@ -4,9 +4,8 @@ use Prim.Native.Nat.{ℕ}
 use mathlib.Core.List.{List}
 use mathlib.Core.Bool.{Bool}
 use Rattle.graph.specs.declared.Counts.{Counts}
-use Rattle.graph.specs.Graph.{Lent}
+use Rattle.graph.specs.Graph.{Lent, noCounts}
 use Rattle.renumber.specs.Renumber.{listsOf, renumber, graphOf}
-use Rattle.renumber.specs.Room.{noEntries}
 use Rattle.keep.specs.Kept.{keptFlags}
 use Rattle.keep.specs.Keeping.{keptRow, newId, keptCounts}
 use Rattle.keep.specs.Copying.{rowsKept, inputsKept, oldKept}
@@ -28,7 +27,7 @@ refined g out =
     graphOf
     (rowsKept (isKept g) (newRow g) (g .rows) (out .rows) (g .counts .rows))
     (inputsKept (isKept g) (newRow g) (g .inputs) (out .inputs) (g .counts .inputs))
-    (renumber (newRow g) (listsOf out) noEntries (listsOf g) (g .counts))
+    (renumber (newRow g) (listsOf out) noCounts (listsOf g) (g .counts))
     (countsOf g)
 
 -- "the new-to-old list comes back"

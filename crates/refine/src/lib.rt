@@ -4,17 +4,18 @@ ghost use Rattle.graph.specs.Graph.{lent};
 ghost use Rattle.graph.specs.Check.{checkSeen};
 ghost use Rattle.refine.specs.Ready.{WriteReady};
 ghost use Rattle.refine.specs.Refining.{countsOf, refined, oldRows};
-ghost use Rattle.refine.specs.Call.{refineAsked, foundSeen, refineChecked, refineSeen, refineCall};
+ghost use Rattle.renumber.specs.Seen.{listedSeen, foundSeen};
+ghost use Rattle.refine.specs.Call.{refineAsked, refineChecked, refineCall};
 use edge::Answer;
 use graph::Counts;
 use graph::marks::clear;
+use graph::no_counts;
 use keep::copies::write_inputs;
 use keep::copies::write_rows;
 use keep::number_kept;
 use renumber::Rebuilt;
 use renumber::output::has_room;
 use renumber::output::limits;
-use renumber::output::no_entries;
 use renumber::write_lists;
 
 // Answers 1 to 3.
@@ -219,7 +220,7 @@ fn write(
         ends2,
         edges2,
         fairness2,
-        no_entries(),
+        no_counts(),
         latches,
         constraints,
         bads,
@@ -258,7 +259,7 @@ pub fn coi_refine(
     marks: &mut [u32],
 ) -> Rebuilt
     ensures { λ r. ⌜
-        refineSeen r
+        listedSeen r
         (lent (now (rows2 .exit)) (now (inputs2 .exit)) (now (latches2 .exit)) (now (constraints2 .exit)) (now (bads2 .exit)) (now (outputs2 .exit)) (now (ends2 .exit)) (now (edges2 .exit)) (now (fairness2 .exit)) (r .counts))
         (now (old .exit)) (now (marks .exit))
         ≡ refineCall

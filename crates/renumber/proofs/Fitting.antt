@@ -10,10 +10,10 @@ use Rattle.edge.proofs.Tests.{both, both-true}
 use Rattle.rows.specs.Sizes.{maxRows, maxEntries, rowsLent}
 use Rattle.graph.specs.declared.Counts.{Counts}
 use Rattle.graph.specs.Latches.{latchesLent}
-use Rattle.graph.specs.Graph.{Lent}
+use Rattle.graph.specs.Graph.{Lent, noCounts}
 use Rattle.renumber.specs.Renumber.{listsOf}
 use Rattle.renumber.specs.Map.{ListsRoom}
-use Rattle.renumber.specs.Room.{noEntries, limitsOf, limits, Limited, roomOf, hasRoom, Room}
+use Rattle.renumber.specs.Room.{limitsOf, limits, Limited, roomOf, hasRoom, Room}
 
 module _ (out : Lent) where
   pub limited : limits out ≡ true → Limited out
@@ -72,7 +72,7 @@ module _ (out : Lent) where
         (le-leb _ _ (s .fairness))
 
     -- the lists fit from their first entry on
-    pub lists-room : Room out n → ListsRoom (listsOf out) noEntries n
+    pub lists-room : Room out n → ListsRoom (listsOf out) noCounts n
     lists-room s =
         record {
           latches = omega (arith, s .latches);

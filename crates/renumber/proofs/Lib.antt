@@ -1,5 +1,4 @@
 pub mod Writing
-pub mod Counting
 pub mod Mapping
 pub mod Fitting
 pub mod Entering

@@ -15,7 +15,7 @@ use Rattle.graph.specs.Latches.{latchAt, latchSet}
 use Rattle.graph.specs.Graph.{Lent, Sized}
 use Rattle.graph.specs.WellFormed.{WellFormed}
 use Rattle.renumber.specs.Writing.{written}
-use Rattle.renumber.specs.Renumber.{renamed, renamedLatch, edgesOf, latchesWritten, Lists, lists, listsOf, renumber, by, Known, Mapped, EdgesReady, ListsReady}
+use Rattle.renumber.specs.Renumber.{renamed, renamedLatch, edgesOf, latchesWritten, Lists, listsOf, renumber, by, Known, Mapped, EdgesReady, ListsReady}
 use Rattle.renumber.specs.Map.{Holds, Small, UsedLatch, UsedEdges, ListsUsed, ListsRoom}
 use Rattle.renumber.proofs.Writing.{written-same, all-lists}
 

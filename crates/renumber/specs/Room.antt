@@ -10,10 +10,6 @@ use Rattle.graph.specs.declared.Counts.{Counts}
 use Rattle.graph.specs.Latches.{latchesLent}
 use Rattle.graph.specs.Graph.{Lent}
 
--- where an output graph's lists start: no entry stands before
-abbrev pub noEntries : Counts
-noEntries = record { rows = 0; inputs = 0; latches = 0; constraints = 0; bads = 0; outputs = 0; sets = 0; edges = 0; fairness = 0 }
-
 -- no answer 1 for what is lent: "at most 1,048,576 rows; at most 65,536 entries a list"
 unfoldable pub limitsOf : List ℕ → List ℕ → List ℕ → List ℕ → List ℕ → List ℕ → List ℕ → List ℕ → List ℕ → Bool
 limitsOf rows inputs latches constraints bads outputs ends edges fairness =

@@ -2,11 +2,9 @@
 pub mod output;
 
 ghost use mathlib.Core.Path.{_≡_};
-ghost use Prim.Native.Nat.{_+_, _*_, _≤_, _<_, _^_};
-ghost use lib.ListN.{length};
-ghost use Rattle.graph.specs.Latches.{latchWords};
+ghost use Prim.Native.Nat.{_+_, _*_, _<_, _^_};
 ghost use Rattle.renumber.specs.Writing.{written};
-ghost use Rattle.renumber.specs.Renumber.{renamed as renamedBy, renamedLatch, edgesOf, idsOf, endsOf, latchesWritten, lists, renumber, by, Known, Mapped, MappedLatch, IdsReady, EdgesReady, LatchesReady, EndsReady, ListsReady};
+ghost use Rattle.renumber.specs.Renumber.{renamed as renamedBy, renamedLatch, edgesOf, idsOf, endsOf, latchesWritten, lists, renumber, by, Mapped, MappedLatch, IdsReady, EdgesReady, LatchesReady, EndsReady, ListsReady};
 use edge::Answer;
 use graph::Counts;
 use graph::latch::Latch;
@@ -51,7 +49,7 @@ pub fn write_ids(out: &mut [u32], at: usize, list: &[u32], n: usize, map: &[u32]
 }
 
 // Justice ends, each `by` further.
-fn write_ends(out: &mut [u32], at: usize, ends: &[u32], n: usize, by: u32)
+pub fn write_ends(out: &mut [u32], at: usize, ends: &[u32], n: usize, by: u32)
     requires { ⌜ EndsReady by (now out) at (now ends) n ⌝ }
     ensures { λ _. ⌜ now (out .exit) ≡ written (now (out .entry)) at (endsOf by (now (ends .entry))) n ⌝ }
 {

@@ -1,27 +1,10 @@
 // An output graph is lent as room alone: its old words and counts are not looked at.
 ghost use mathlib.Core.Path.{_≡_};
-ghost use Rattle.renumber.specs.Room.{noEntries, limitsOf, roomOf};
+ghost use Rattle.renumber.specs.Room.{limitsOf, roomOf};
 use graph::Counts;
 use graph::latch::LATCH_WORDS;
 use rows::sizes::MAX_ENTRIES;
 use rows::sizes::MAX_ROWS;
-
-// Where an output graph's lists start: no entry stands before.
-pub fn no_entries() -> Counts
-    ensures { λ r. ⌜ r ≡ noEntries ⌝ }
-{
-    Counts {
-        rows: 0,
-        inputs: 0,
-        latches: 0,
-        constraints: 0,
-        bads: 0,
-        outputs: 0,
-        sets: 0,
-        edges: 0,
-        fairness: 0,
-    }
-}
 
 // Is no limit passed by what is lent?
 pub fn limits(

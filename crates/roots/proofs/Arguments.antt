@@ -16,8 +16,8 @@ use Rattle.edge.specs.declared.answer.Given.{Given}
 use Rattle.edge.specs.Answers.{done, badArgument, told, orElse}
 use Rattle.edge.proofs.Tests.{both, both-true, false-true}
 use Rattle.edge.proofs.Answers.{stops-here, none-of-two, goes-past}
-use Rattle.graph.specs.Graph.{Lent, sizesRight, Sized}
-use Rattle.graph.specs.Check.{contents, cleared, CheckSeen, checkSeen, checkCall}
+use Rattle.graph.specs.Graph.{Lent, Sized}
+use Rattle.graph.specs.Check.{cleared, CheckSeen, checkSeen, checkCall}
 use Rattle.graph.specs.WellFormed.{WellFormed}
 use Rattle.graph.proofs.Checked.{sized}
 use Rattle.graph.proofs.WellFormed.{exact}
@@ -97,25 +97,6 @@ module _ (room good : Bool) (g : Lent) (marks : List ℕ) where
       go false e h = absurd (h refl)
 
   -- ---- the marks: untouched after 1, and else cleared
-  check-untouched : checkCall g marks .given .number ≡ 1 → checkCall g marks .marks ≡ marks
-  unfolding checkCall
-  check-untouched z = go (sizesRight g (length marks)) refl
-    where
-      go : (t : Bool) → sizesRight g (length marks) ≡ t
-          → cond {A = CheckSeen} t (record { given = contents g; marks = cleared (g .counts .rows) marks }) (checkSeen BadSizes marks) .marks ≡ marks
-      go true e = absurd (exact g marks .refused z (sized g (length marks) e))
-      go false e = refl
-
-  check-cleared : (checkCall g marks .given .number ≡ 1 → ⊥) → checkCall g marks .marks ≡ cleared (g .counts .rows) marks
-  unfolding checkCall
-  check-cleared = go (sizesRight g (length marks))
-    where
-      go : (t : Bool)
-          → (cond {A = CheckSeen} t (record { given = contents g; marks = cleared (g .counts .rows) marks }) (checkSeen BadSizes marks) .given .number ≡ 1 → ⊥)
-          → cond {A = CheckSeen} t (record { given = contents g; marks = cleared (g .counts .rows) marks }) (checkSeen BadSizes marks) .marks ≡ cleared (g .counts .rows) marks
-      go true h = refl
-      go false h = absurd (h refl)
-
   -- only the check of the graph answers 1 behind it
   by-check : orElse (checkCall g marks .given) (cond good done badArgument) .number ≡ 1 → checkCall g marks .given .number ≡ 1
   unfolding orElse
@@ -132,7 +113,7 @@ module _ (room good : Bool) (g : Lent) (marks : List ℕ) where
     where
       go : (r : Bool) → cond {A = CheckSeen} r (record { given = orElse (checkCall g marks .given) (cond good done badArgument); marks = checkCall g marks .marks }) (checkSeen BadSizes marks) .given .number ≡ 1
           → cond {A = CheckSeen} r (record { given = orElse (checkCall g marks .given) (cond good done badArgument); marks = checkCall g marks .marks }) (checkSeen BadSizes marks) .marks ≡ marks
-      go true z = check-untouched (by-check z)
+      go true z = exact g marks .untouched (by-check z)
       go false z = refl
 
   pub args-cleared : (argsCall room good g marks .given .number ≡ 1 → ⊥) → argsCall room good g marks .marks ≡ cleared (g .counts .rows) marks
@@ -145,7 +126,7 @@ module _ (room good : Bool) (g : Lent) (marks : List ℕ) where
       go : (r : Bool)
           → (cond {A = CheckSeen} r (record { given = orElse (checkCall g marks .given) (cond good done badArgument); marks = checkCall g marks .marks }) (checkSeen BadSizes marks) .given .number ≡ 1 → ⊥)
           → cond {A = CheckSeen} r (record { given = orElse (checkCall g marks .given) (cond good done badArgument); marks = checkCall g marks .marks }) (checkSeen BadSizes marks) .marks ≡ cleared (g .counts .rows) marks
-      go true h = check-cleared (λ z. h (one z))
+      go true h = exact g marks .clear (λ z. h (one z))
       go false h = absurd (h refl)
 
   -- ---- the graph's check is made, and then the arguments are looked at

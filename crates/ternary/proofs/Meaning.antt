@@ -21,7 +21,7 @@ use Rattle.graph.specs.Latches.{latchAt}
 use Rattle.graph.specs.Graph.{Lent, Sized}
 use Rattle.graph.specs.WellFormed.{WellFormed}
 use Rattle.ternary.specs.Codes.{unknown, and3, not3, edge3}
-use Rattle.ternary.specs.Run.{placed, inputRow, latchRow, nextRow, row3, rows3, codesOf, run, next, stateAt, frame}
+use Rattle.ternary.specs.Run.{placed, inputRow, latchRow, nextRow, row3, rows3, codesOf, run, next, stateAt}
 use Rattle.ternary.specs.Meaning.{Listed, codeOf, Agrees, Known, NoOrphan, Chosen, Means, Trace, AllKnown, Frames, truths, Traced, Whole, M7}
 use Rattle.ternary.proofs.Running.{nexts-at}
 use Rattle.ternary.proofs.Ruling.{obeys, leafCodes, run-gate, run-other, row-kind, listed-later, leaf-has, leaf-listed, blank-later, leaf-zero}

@@ -1,9 +1,8 @@
 -- `merge::merge` meets its contract.
 -- Assumes nothing.
 use Prim.Native.Nat.{ℕ}
-use mathlib.Core.Path.{_≡_}
+use mathlib.Core.Path.{_≡_, refl}
 use native.Mathlib.Omega.{arith}
-use mathlib.Core.Path.{refl}
 use lib.ListN.{length}
 use Rattle.graph.specs.Graph.{Lent, lent}
 use Rattle.merge.specs.Merge.{MergeLent}

@@ -1,8 +1,7 @@
 -- `roots::mark_latch` meets its contract.
 -- Assumes nothing.
-use borrow.Author.Tests.{eq-eqb, ne-eqb}
+use borrow.Author.Tests.{eq-eqb, ne-eqb, ltb-true}
 use lib.ListN.{length, length-set}
-use borrow.Author.Tests.{ltb-true}
 use Rattle.graph.specs.Leaves.{usedEdge}
 use Rattle.roots.proofs.Roots.{next-good, init-good, latch-without, latch-with}
 use borrow.Author.Needs.{needs}

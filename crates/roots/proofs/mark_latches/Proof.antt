@@ -1,13 +1,12 @@
 -- `roots::mark_latches` meets its contract.
 -- Assumes nothing.
-use Rattle.roots.proofs.Roots.{latches-end}
+use Rattle.roots.proofs.Roots.{latches-end, latch-good, latches-turn}
 use Prim.Native.Nat.{_-_, _≤_}
 use mathlib.Core.Path.{_≡_, refl, sym, _∙_}
 use lib.ListN.{length}
 use Rattle.graph.specs.Leaves.{usedEdge}
 use Rattle.roots.specs.Marking.{markEdges}
 use Rattle.roots.specs.Roots.{latchRoots}
-use Rattle.roots.proofs.Roots.{latch-good, latches-turn}
 use borrow.Author.Needs.{needs}
 use Rattle.roots.proofs.mark_latches.Statement.{statement}
 use Rattle.roots.proofs.mark_latches.Tie as tie

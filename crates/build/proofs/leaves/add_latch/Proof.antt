@@ -8,9 +8,9 @@ use lib.ListN.{length}
 use lib.Dec.{ltb}
 use Rattle.edge.specs.Answers.{told}
 use Rattle.edge.proofs.Answers.{test-done}
-use Rattle.graph.specs.Latches.{latchWords}
+use Rattle.graph.specs.Latches.{latchWords, latch}
 use Rattle.graph.specs.Leaves.{latchEdges}
-use Rattle.build.specs.Leaves.{addLatchCall, latch, latchAnswer}
+use Rattle.build.specs.Leaves.{addLatchCall, latchAnswer}
 use Rattle.build.proofs.Adding.{add-refused, add-done, Fits, latch-fits}
 use borrow.Author.Needs.{needs}
 use Rattle.build.proofs.leaves.add_latch.Statement.{statement}

@@ -5,7 +5,8 @@ use mathlib.Core.List.{[]}
 use Rattle.edge.proofs.Answers.{test-done, test-refused}
 use Rattle.build.proofs.Answering.{call-refused, call-done}
 use Rattle.build.proofs.Calling.{built-seen}
-use Rattle.build.specs.Leaves.{newCall, noCounts}
+use Rattle.graph.specs.Graph.{noCounts}
+use Rattle.build.specs.Leaves.{newCall}
 use borrow.Author.Needs.{needs}
 use Rattle.build.proofs.leaves.new.Statement.{statement}
 use Rattle.build.proofs.leaves.new.Tie as tie

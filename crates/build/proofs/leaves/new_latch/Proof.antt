@@ -6,9 +6,9 @@ use Prim.Native.Nat.{_+_, _*_}
 use lib.ListN.{length}
 use Rattle.edge.specs.Answers.{told}
 use Rattle.edge.proofs.Answers.{test-done}
-use Rattle.graph.specs.Latches.{latchWords}
+use Rattle.graph.specs.Latches.{latchWords, latch}
 use Rattle.graph.specs.Leaves.{latchEdges}
-use Rattle.build.specs.Leaves.{newLatchCall, freeRow, latch, latchAnswer}
+use Rattle.build.specs.Leaves.{newLatchCall, freeRow, latchAnswer}
 use Rattle.build.proofs.Adding.{add-refused, add-done, Fits, latch-fits, edges-of}
 use borrow.Author.Needs.{needs}
 use Rattle.build.proofs.leaves.new_latch.Statement.{statement}

@@ -2,7 +2,8 @@
 -- Assumes nothing.
 use Rattle.graph.specs.Graph.{lent}
 use Rattle.c_api.specs.Words.{countsIn}
-use Rattle.c_api.proofs.Telling.{refine-told}
+use Rattle.refine.specs.Call.{refineCall}
+use Rattle.c_api.proofs.Telling.{tells-listed}
 use borrow.Author.Needs.{needs}
 use Rattle.c_api.proofs.rebuild.sulandiro_coi_refine.Statement.{statement}
 use Rattle.c_api.proofs.rebuild.sulandiro_coi_refine.Tie as tie
@@ -53,7 +54,7 @@ same-length-12 : tie.Need-same-length-12
 same-length-12 c = search needs
 
 returns : tie.Need-returns
-returns c = let a = c .before .before .before .before .before .before .before .before .before .before .before .before .before .before .before .before .before .before .before .before .before .before .before .before .before .before .before .before .before .before .before .before .before .before .before .before .before .before .before .before .before .before .before .before .before .before .before .before .before .before .before .before .before .before .before .before .before .before .before .before .before .args in refine-told (a .told .now) (c .before .before .before .before .before .before .before .before .before .before .before .before .before .before .before .before .before .before .before .before .before .before .before .before .before .before .coi-refine .result) (lent _ _ _ _ _ _ _ _ _ (c .before .before .before .before .before .before .before .before .before .before .before .before .before .before .before .before .before .before .before .before .before .before .before .before .before .before .coi-refine .result .counts)) _ (c .before .before .tell-rebuilt .ensures) _ (lent (a .rows .now) (a .inputs .now) (a .latches .now) (a .constraints .now) (a .bads .now) (a .outputs .now) (a .ends .now) (a .edges .now) (a .fairness .now) (countsIn (a .counts .now))) (lent (a .rows2 .now) (a .inputs2 .now) (a .latches2 .now) (a .constraints2 .now) (a .bads2 .now) (a .outputs2 .now) (a .ends2 .now) (a .edges2 .now) (a .fairness2 .now) (countsIn (a .counts .now))) (a .old .now) (a .marks .now) (rw (← (c .before .before .before .before .before .before .before .before .before .before .before .before .before .before .before .before .before .before .before .before .before .before .before .before .before .before .before .before .before .before .before .before .before .before .before .before .before .before .counts-in .ensures)) (c .before .before .before .before .before .before .before .before .before .before .before .before .before .before .before .before .before .before .before .before .before .before .before .before .before .before .coi-refine .ensures))
+returns c = let a = c .before .before .before .before .before .before .before .before .before .before .before .before .before .before .before .before .before .before .before .before .before .before .before .before .before .before .before .before .before .before .before .before .before .before .before .before .before .before .before .before .before .before .before .before .before .before .before .before .before .before .before .before .before .before .before .before .before .before .before .before .before .args in tells-listed (a .told .now) (c .before .before .before .before .before .before .before .before .before .before .before .before .before .before .before .before .before .before .before .before .before .before .before .before .before .before .coi-refine .result) (lent _ _ _ _ _ _ _ _ _ (c .before .before .before .before .before .before .before .before .before .before .before .before .before .before .before .before .before .before .before .before .before .before .before .before .before .before .coi-refine .result .counts)) _ (c .before .before .tell-rebuilt .ensures) _ (refineCall (lent (a .rows .now) (a .inputs .now) (a .latches .now) (a .constraints .now) (a .bads .now) (a .outputs .now) (a .ends .now) (a .edges .now) (a .fairness .now) (countsIn (a .counts .now))) (lent (a .rows2 .now) (a .inputs2 .now) (a .latches2 .now) (a .constraints2 .now) (a .bads2 .now) (a .outputs2 .now) (a .ends2 .now) (a .edges2 .now) (a .fairness2 .now) (countsIn (a .counts .now))) (a .old .now) (a .marks .now)) (rw (← (c .before .before .before .before .before .before .before .before .before .before .before .before .before .before .before .before .before .before .before .before .before .before .before .before .before .before .before .before .before .before .before .before .before .before .before .before .before .before .counts-in .ensures)) (c .before .before .before .before .before .before .before .before .before .before .before .before .before .before .before .before .before .before .before .before .before .before .before .before .before .before .coi-refine .ensures))
 
 pub sulandiro-coi-refine-spec : {M : Type 1} → statement M
 sulandiro-coi-refine-spec =

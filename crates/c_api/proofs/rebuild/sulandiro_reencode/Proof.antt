@@ -2,7 +2,8 @@
 -- Assumes nothing.
 use Rattle.graph.specs.Graph.{lent}
 use Rattle.c_api.specs.Words.{countsIn}
-use Rattle.c_api.proofs.Telling.{reencode-told}
+use Rattle.reencode.specs.Call.{reencodeCall}
+use Rattle.c_api.proofs.Telling.{tells}
 use borrow.Author.Needs.{needs}
 use Rattle.c_api.proofs.rebuild.sulandiro_reencode.Statement.{statement}
 use Rattle.c_api.proofs.rebuild.sulandiro_reencode.Tie as tie
@@ -50,7 +51,7 @@ same-length-11 : tie.Need-same-length-11
 same-length-11 c = search needs
 
 returns : tie.Need-returns
-returns c = let a = c .before .before .before .before .before .before .before .before .before .before .before .before .before .before .before .before .before .before .before .before .before .before .before .before .before .before .before .before .before .before .before .before .before .before .before .before .before .before .before .before .before .before .before .before .before .before .before .before .before .before .before .before .before .before .before .before .before .args in reencode-told (a .told .now) (c .before .before .before .before .before .before .before .before .before .before .before .before .before .before .before .before .before .before .before .before .before .before .before .before .reencode .result) (lent _ _ _ _ _ _ _ _ _ (c .before .before .before .before .before .before .before .before .before .before .before .before .before .before .before .before .before .before .before .before .before .before .before .before .reencode .result .counts)) _ (c .before .before .tell-rebuilt .ensures) (lent (a .rows .now) (a .inputs .now) (a .latches .now) (a .constraints .now) (a .bads .now) (a .outputs .now) (a .ends .now) (a .edges .now) (a .fairness .now) (countsIn (a .counts .now))) (lent (a .rows2 .now) (a .inputs2 .now) (a .latches2 .now) (a .constraints2 .now) (a .bads2 .now) (a .outputs2 .now) (a .ends2 .now) (a .edges2 .now) (a .fairness2 .now) (countsIn (a .counts .now))) (a .marks .now) (rw (← (c .before .before .before .before .before .before .before .before .before .before .before .before .before .before .before .before .before .before .before .before .before .before .before .before .before .before .before .before .before .before .before .before .before .before .before .counts-in .ensures)) (c .before .before .before .before .before .before .before .before .before .before .before .before .before .before .before .before .before .before .before .before .before .before .before .before .reencode .ensures))
+returns c = let a = c .before .before .before .before .before .before .before .before .before .before .before .before .before .before .before .before .before .before .before .before .before .before .before .before .before .before .before .before .before .before .before .before .before .before .before .before .before .before .before .before .before .before .before .before .before .before .before .before .before .before .before .before .before .before .before .before .before .args in tells (a .told .now) (c .before .before .before .before .before .before .before .before .before .before .before .before .before .before .before .before .before .before .before .before .before .before .before .before .reencode .result) (lent _ _ _ _ _ _ _ _ _ (c .before .before .before .before .before .before .before .before .before .before .before .before .before .before .before .before .before .before .before .before .before .before .before .before .reencode .result .counts)) _ (c .before .before .tell-rebuilt .ensures) (reencodeCall (lent (a .rows .now) (a .inputs .now) (a .latches .now) (a .constraints .now) (a .bads .now) (a .outputs .now) (a .ends .now) (a .edges .now) (a .fairness .now) (countsIn (a .counts .now))) (lent (a .rows2 .now) (a .inputs2 .now) (a .latches2 .now) (a .constraints2 .now) (a .bads2 .now) (a .outputs2 .now) (a .ends2 .now) (a .edges2 .now) (a .fairness2 .now) (countsIn (a .counts .now))) (a .marks .now)) (rw (← (c .before .before .before .before .before .before .before .before .before .before .before .before .before .before .before .before .before .before .before .before .before .before .before .before .before .before .before .before .before .before .before .before .before .before .before .counts-in .ensures)) (c .before .before .before .before .before .before .before .before .before .before .before .before .before .before .before .before .before .before .before .before .before .before .before .before .reencode .ensures))
 
 pub sulandiro-reencode-spec : {M : Type 1} → statement M
 sulandiro-reencode-spec =

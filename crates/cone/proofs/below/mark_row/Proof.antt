@@ -1,13 +1,11 @@
 -- `cone::below::mark_row` meets its contract.
 -- Assumes nothing.
 use Prim.Native.Nat.{_/_, _<_}
-use lib.ListN.{getD}
-use mathlib.Core.Bool.{true}
+use lib.ListN.{getD, length-set}
+use mathlib.Core.Bool.{true, _&&_}
 use Rattle.rows.specs.Rows.{gateAt, word0, word1}
 use native.Mathlib.Omega.{arith}
 use mathlib.Core.Path.{_≡_, sym}
-use mathlib.Core.Bool.{_&&_}
-use lib.ListN.{length-set}
 use lib.Dec.{eqb}
 use borrow.Author.Tests.{not-true, not-false}
 use Rattle.cone.proofs.Marking.{row-stays, row-marks, test-below}

@@ -5,7 +5,7 @@ use native.Mathlib.Omega.{arith}
 use native.Mathlib.Nat.{le-antisymm}
 use mathlib.Core.Path.{_≡_, refl, sym, _∙_}
 use mathlib.Core.Logic.{⊎-elim}
-use Rattle.renumber.specs.Count.{countBelow}
+use Rattle.graph.specs.Count.{countBelow}
 use Rattle.keep.specs.Keeping.{numbered, keptInput}
 use Rattle.keep.proofs.Numbering.{count-taken, count-left, count-small}
 use borrow.Author.Needs.{needs}

@@ -6,9 +6,9 @@ use native.Mathlib.Nat.{le-antisymm}
 use mathlib.Core.Path.{_≡_, refl}
 use mathlib.Core.Logic.{⊎-elim}
 use Rattle.rows.specs.Rows.{leafAt}
-use Rattle.renumber.specs.Count.{countBelow}
+use Rattle.graph.specs.Count.{countBelow}
 use Rattle.reencode.proofs.Turning.{count-taken, count-left}
-use Rattle.renumber.proofs.Counting.{count-within}
+use Rattle.graph.proofs.Counting.{count-within}
 use borrow.Author.Needs.{needs}
 use Rattle.reencode.proofs.leaves.count_leaves.Statement.{statement}
 use Rattle.reencode.proofs.leaves.count_leaves.Tie as tie

@@ -1,0 +1,4 @@
+pub mod Building
+pub mod Listing
+pub mod Growing
+pub mod Meaning
