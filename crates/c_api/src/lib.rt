@@ -1,5 +1,6 @@
 // The library for callers in C: a slice is a pointer and a length.
 mod numbers;
+mod properties;
 mod rebuild;
 
 ghost use mathlib.Core.Path.{_≡_};

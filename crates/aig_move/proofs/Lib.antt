@@ -1,0 +1,7 @@
+pub mod Steps
+pub mod Copied
+pub mod Call
+pub mod Growth
+pub mod Result
+pub mod Right
+pub mod Cases

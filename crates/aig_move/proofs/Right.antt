@@ -1,0 +1,82 @@
+-- `aig_move` is right.
+-- Assumes nothing.
+use Prim.Native.Nat.{ℕ}
+use native.Mathlib.Omega.{arith}
+use mathlib.Core.Path.{_≡_, refl, ap, _∙_}
+use mathlib.Core.Bool.{Bool, true, false, cond}
+use mathlib.Core.List.{List}
+use lib.ListN.{length}
+use lib.Dec.{eqb}
+use borrow.Author.Tests.{eq-eqb, ne-eqb}
+use Rattle.edge.specs.declared.answer.Given.{Given}
+use Rattle.edge.specs.Answers.{done, noRoom, orElse}
+use Rattle.graph.specs.Graph.{Lent}
+use Rattle.renumber.specs.Writing.{written}
+use Rattle.renumber.specs.Room.{hasRoom}
+use Rattle.renumber.proofs.Fitting.{limits-true, room-true}
+use Rattle.copy.specs.Copying.{copied, copyOf}
+use Rattle.copy.proofs.Asking.{asked-accepts, asked-cleared, asked-untouched}
+use Rattle.aig_move.specs.Moving.{countsOf, finished, moved}
+use Rattle.aig_move.specs.Call.{moveAsked, moveAnswer, moveCall}
+use Rattle.aig_move.specs.Meaning.{MoveLent, Moved, MoveRight}
+use Rattle.aig_move.proofs.Call.{answer-stops, answer-goes, all-right}
+use Rattle.aig_move.proofs.Result.{is-moved}
+
+module _ (g out : Lent) (marks : List ℕ) where
+  abbrev asked : Given
+  asked = moveAsked g out marks .given
+
+  abbrev answer : ℕ
+  answer = moveAnswer g out marks .number
+
+  accepts : MoveLent g out marks → answer ≡ 0
+  accepts l =
+      let a : asked ≡ done = asked-accepts true g out marks (record { roomy = limits-true out (l .limited); all-good = refl; sized = l .sized; well-formed = l .well-formed }) in
+      let n : asked .number ≡ 0 = ap (λ (t : Given). t .number) a in
+      ap (λ (t : Given). t .number) (answer-goes g out marks n) ∙ rw (room-true out (countsOf g) (l .room))
+
+  graph-done : answer ≡ 0 → moveCall g out marks .graph ≡ moved g out
+  unfolding moveCall
+  graph-done z = rw (eq-eqb answer 0 z)
+
+  moves : answer ≡ 0 → Moved g (moveCall g out marks .graph)
+  moves z =
+      let l = all-right g out marks z in
+      rw (graph-done z) (is-moved g out (length marks) (l .sized) (l .well-formed) (l .room) (l .limited))
+
+  refused : (answer ≡ 0 → ⊥) → moveCall g out marks .graph ≡ out
+  unfolding moveCall
+  refused h = rw (ne-eqb answer 0 h)
+
+  constraints-stay : moveCall g out marks .graph .constraints ≡ out .constraints
+  unfolding moveCall moved finished copyOf copied written
+  constraints-stay = go (eqb answer 0)
+    where
+      go : (t : Bool) → cond t (moved g out) out .constraints ≡ out .constraints
+      go true = refl
+      go false = refl
+
+  -- ---- the marks: only the check of what is lent answers 1
+  by-sizes : answer ≡ 1 → asked .number ≡ 1
+  unfolding moveAnswer orElse
+  by-sizes = go (eqb (asked .number) 0) (hasRoom out (countsOf g))
+    where
+      go : (t r : Bool) → cond t (cond r done noRoom) asked .number ≡ 1 → asked .number ≡ 1
+      go true true z = absurd (omega arith)
+      go true false z = absurd (omega arith)
+      go false r z = z
+
+  sizes-first : asked .number ≡ 1 → answer ≡ 1
+  sizes-first z = ap (λ (t : Given). t .number) (answer-stops g out marks (λ (o : asked .number ≡ 0). absurd (omega arith))) ∙ z
+
+  pub aig-move-right : MoveRight g out marks
+  aig-move-right =
+      record {
+        accepts = λ l. unfold moveCall in accepts l;
+        accepted = λ z. unfold moveCall in all-right g out marks z;
+        moves = λ z. unfold moveCall in moves z;
+        refused = λ h. unfold moveCall in refused h;
+        constraints-stay = constraints-stay;
+        untouched = λ z. unfold moveCall in asked-untouched true g out marks (by-sizes z);
+        zeroed = λ h. unfold moveCall in asked-cleared true g out marks (λ z. h (sizes-first z));
+      }

@@ -1,0 +1,89 @@
+-- What the new graph means.
+-- Assumes nothing.
+use Prim.Native.Nat.{ℕ, _*_, _≤_, _<_}
+use mathlib.Core.Path.{_≡_}
+use mathlib.Core.Bool.{Bool, true, _&&_}
+use mathlib.Core.List.{List}
+use lib.ListN.{length, getD, take}
+use Rattle.edge.specs.Edges.{constantOf}
+use Rattle.edge.specs.Meaning.{edgeValue}
+use Rattle.rows.specs.Rows.{leafAt}
+use Rattle.rows.specs.Value.{value}
+use Rattle.graph.specs.Latches.{latchAt}
+use Rattle.graph.specs.Graph.{Lent, Sized}
+use Rattle.graph.specs.Check.{cleared}
+use Rattle.graph.specs.WellFormed.{WellFormed}
+use Rattle.gates.specs.Meaning.{allTrue}
+use Rattle.renumber.specs.Room.{Limited, Room}
+use Rattle.aig_move.specs.Moving.{countsOf}
+use Rattle.aig_move.specs.Call.{moveCall}
+
+-- the value of an edge of a graph
+abbrev pub valueIn : Lent → (ℕ → Bool) → ℕ → Bool
+valueIn g leaf = edgeValue (value (g .rows) leaf)
+
+-- all constraints of g hold
+abbrev pub Constraints : Lent → (ℕ → Bool) → Bool
+Constraints g leaf = allTrue (valueIn g leaf) (take (g .counts .constraints) (g .constraints))
+
+-- the first free row becomes the latch's, and the latch comes behind the others
+abbrev pub newNext : Lent → Lent → ℕ
+newNext g after = latchAt (after .latches) (g .counts .latches) .next
+
+pub record NewLatch (g after : Lent) : Type 0 where
+  pub input : latchAt (after .latches) (g .counts .latches) .input ≡ g .counts .rows
+  pub isLeaf : leafAt (after .rows) (g .counts .rows) ≡ true
+  -- "(init true)"
+  pub init : latchAt (after .latches) (g .counts .latches) .init ≡ constantOf true
+  -- "next = latch AND all constraints"
+  pub next : (leaf : ℕ → Bool) → valueIn after leaf (newNext g after) ≡ leaf (g .counts .rows) && Constraints g leaf
+
+-- of n entries the first is true exactly if next is and the old first is, and the others are as they were
+pub record FirstGuarded (g after : Lent) (n : ℕ) (old new : List ℕ) : Type 0 where
+  pub first : 0 < n → (leaf : ℕ → Bool) → valueIn after leaf (getD new 0 0) ≡ valueIn after leaf (newNext g after) && valueIn g leaf (getD old 0 0)
+  pub others : (j : ℕ) → 0 < j → j < n → getD new j 0 ≡ getD old j 0
+
+-- the first n entries are as they were
+abbrev pub Same : ℕ → List ℕ → List ℕ → Type 0
+Same n old new = (j : ℕ) → j < n → getD new j 0 ≡ getD old j 0
+
+-- `after` is g with its constraints moved into a latch
+pub record Moved (g after : Lent) : Type 0 where
+  pub counts : after .counts ≡ countsOf g
+  -- "clears constraints"
+  pub no-constraints : after .counts .constraints ≡ 0
+  pub latch : NewLatch g after
+  -- "replaces the first bad and first output by their AND with that next"
+  pub bads : FirstGuarded g after (g .counts .bads) (g .bads) (after .bads)
+  pub outputs : FirstGuarded g after (g .counts .outputs) (g .outputs) (after .outputs)
+  -- every row of g keeps its words, and its value under every choice of leaf values
+  pub rows : Same (2 * g .counts .rows) (g .rows) (after .rows)
+  pub values : (leaf : ℕ → Bool) (i : ℕ) → i < g .counts .rows → value (after .rows) leaf i ≡ value (g .rows) leaf i
+  -- and so does every other entry
+  pub inputs : Same (g .counts .inputs) (g .inputs) (after .inputs)
+  pub latches : (j : ℕ) → j < g .counts .latches → latchAt (after .latches) j ≡ latchAt (g .latches) j
+  pub ends : Same (g .counts .sets) (g .ends) (after .ends)
+  pub edges : Same (g .counts .edges) (g .edges) (after .edges)
+  pub fairness : Same (g .counts .fairness) (g .fairness) (after .fairness)
+  -- the result may be given to any call
+  pub sized : (marks : ℕ) → after .counts .rows ≤ marks → Sized after marks
+  pub well-formed : WellFormed after
+
+-- what is lent to the call is right, and there is room
+pub record MoveLent (g out : Lent) (marks : List ℕ) : Type 0 where
+  pub limited : Limited out
+  pub sized : Sized g (length marks)
+  pub well-formed : WellFormed g
+  pub room : Room out (countsOf g)
+
+-- `aig_move` is done exactly where what is lent is right and there is room, and then the output is the graph with its constraints in a latch. Else the output is as it was.
+pub record MoveRight (g out : Lent) (marks : List ℕ) : Type 0 where
+  pub accepts : MoveLent g out marks → moveCall g out marks .given .number ≡ 0
+  pub accepted : moveCall g out marks .given .number ≡ 0 → MoveLent g out marks
+  pub moves : moveCall g out marks .given .number ≡ 0 → Moved g (moveCall g out marks .graph)
+  pub refused : (moveCall g out marks .given .number ≡ 0 → ⊥) → moveCall g out marks .graph ≡ out
+  -- "none of their words are written": the room's constraints stay
+  pub constraints-stay : moveCall g out marks .graph .constraints ≡ out .constraints
+  -- "Work marks are zero at exit over the rows used at entry, except after 1, when they are untouched"
+  pub untouched : moveCall g out marks .given .number ≡ 1 → moveCall g out marks .marks ≡ marks
+  pub zeroed : (moveCall g out marks .given .number ≡ 1 → ⊥) → moveCall g out marks .marks ≡ cleared (g .counts .rows) marks

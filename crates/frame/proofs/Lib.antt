@@ -1,0 +1,7 @@
+pub mod Mapping
+pub mod Framing
+pub mod Ready
+pub mod Extending
+pub mod Forming
+pub mod Valuing
+pub mod Meaning

@@ -1,0 +1,141 @@
+-- `frame::rebuild::frame_row` meets its contract.
+-- Assumes nothing.
+use native.Mathlib.Omega.{arith}
+use mathlib.Core.Path.{_∙_, sym}
+use Rattle.rows.proofs.Laws.{gate-below}
+use Rattle.frame.specs.Frame.{frame}
+use Rattle.frame.proofs.Framing.{row-gate, row-leaf, row-stays}
+use borrow.Author.Needs.{needs}
+use Rattle.frame.proofs.rebuild.frame_row.Statement.{statement}
+use Rattle.frame.proofs.rebuild.frame_row.Tie as tie
+
+mul-a : tie.Need-mul-a
+mul-a c = search needs
+
+mul-a-2 : tie.Need-mul-a-2
+mul-a-2 c = search needs
+
+shared-slice-read-a : tie.Need-shared-slice-read-a
+shared-slice-read-a c = search needs
+
+mul-b : tie.Need-mul-b
+mul-b c = search needs
+
+add-b : tie.Need-add-b
+add-b c = search needs
+
+mul-b-2 : tie.Need-mul-b-2
+mul-b-2 c = search needs
+
+shared-slice-read-b : tie.Need-shared-slice-read-b
+shared-slice-read-b c = search needs
+
+is-gate-requires : tie.Need-is-gate-requires
+is-gate-requires c κs = search needs
+
+mapped-requires : tie.Need-mapped-requires
+mapped-requires c κs = let l = gate-below ((c .before .before .before .before .before .before .before .before .before .before) .args .i) _ _ (sym (c .before .before .before .is-gate .ensures) ∙ c .before .before .if1 .taken) in omega (arith, l .0, (c .before .before .before .before .before .before .before .before .before .before) .pre .0 .1)
+
+mapped-requires-2 : tie.Need-mapped-requires-2
+mapped-requires-2 c κs = let l = gate-below ((c .before .before .before .before .before .before .before .before .before .before .before .before) .args .i) _ _ (sym (c .before .before .before .before .before .is-gate .ensures) ∙ c .before .before .before .before .if1 .taken) in omega (arith, l .1, (c .before .before .before .before .before .before .before .before .before .before .before .before) .pre .0 .1)
+
+add-and-requires : tie.Need-add-and-requires
+add-and-requires c κs = search needs
+
+mul-map : tie.Need-mul-map
+mul-map c = search needs
+
+slice-write-map : tie.Need-slice-write-map
+slice-write-map c = search needs
+
+same-length : tie.Need-same-length
+same-length c = search needs
+
+same-length-2 : tie.Need-same-length-2
+same-length-2 c = search needs
+
+returns : tie.Need-returns
+returns c =
+    let a = (c .before .before .before .before .before .before .before .before .before .before .before .before .before .before .before .before) .args in
+    row-gate (a .from .now) (a .i) (frame (a .rows .now) (a .at .used) (a .inputs .now) (a .at .inputs) (a .map .now)) (sym (c .before .before .before .before .before .before .before .before .before .is-gate .ensures) ∙ c .before .before .before .before .before .before .before .before .if1 .taken) (c .before .before .before .before .before .mapped .ensures) (c .before .before .before .mapped2 .ensures) _ (c .before .before .add-and .ensures)
+
+mul-if2 : tie.Need-mul-if2
+mul-if2 c = search needs
+
+slice-read-if2 : tie.Need-slice-read-if2
+slice-read-if2 c = search needs
+
+add-leaf-requires : tie.Need-add-leaf-requires
+add-leaf-requires c κs = search needs
+
+cast-map : tie.Need-cast-map
+cast-map c = search needs
+
+mul-map-2 : tie.Need-mul-map-2
+mul-map-2 c = search needs
+
+mul-map-3 : tie.Need-mul-map-3
+mul-map-3 c = search needs
+
+slice-write-map-2 : tie.Need-slice-write-map-2
+slice-write-map-2 c = search needs
+
+add-t36 : tie.Need-add-t36
+add-t36 c = search needs
+
+add-t38 : tie.Need-add-t38
+add-t38 c = search needs
+
+same-length-3 : tie.Need-same-length-3
+same-length-3 c = search needs
+
+same-length-4 : tie.Need-same-length-4
+same-length-4 c = search needs
+
+same-length-5 : tie.Need-same-length-5
+same-length-5 c = search needs
+
+returns-2 : tie.Need-returns-2
+returns-2 c =
+    let a = (c .before .before .before .before .before .before .before .before .before .before .before .before .before .before .before .before .before .before .before .before) .args in
+    row-leaf (a .from .now) (a .i) (frame (a .rows .now) (a .at .used) (a .inputs .now) (a .at .inputs) (a .map .now)) (sym (c .before .before .before .before .before .before .before .before .before .before .before .before .before .is-gate .ensures) ∙ c .before .before .before .before .before .before .before .before .before .before .before .before .if1 .left) (c .before .before .before .before .before .before .before .before .before .before .if2 .taken) (c .before .before .before .before .before .before .before .add-leaf .ensures .0) (c .before .before .before .before .before .before .before .add-leaf .ensures .1)
+
+returns-3 : tie.Need-returns-3
+returns-3 c =
+    let a = (c .before .before .before .before .before .before .before .before .before .before) .args in
+    row-stays (a .from .now) (a .i) (frame (a .rows .now) (a .at .used) (a .inputs .now) (a .at .inputs) (a .map .now)) (sym (c .before .before .before .is-gate .ensures) ∙ c .before .before .if1 .left) (c .if2 .left)
+
+pub frame-row-spec : {M : Type 1} → statement M
+frame-row-spec =
+    tie.close
+    (tie.spec
+    mul-a
+    mul-a-2
+    shared-slice-read-a
+    mul-b
+    add-b
+    mul-b-2
+    shared-slice-read-b
+    is-gate-requires
+    mapped-requires
+    mapped-requires-2
+    add-and-requires
+    mul-map
+    slice-write-map
+    same-length
+    same-length-2
+    returns
+    mul-if2
+    slice-read-if2
+    add-leaf-requires
+    cast-map
+    mul-map-2
+    mul-map-3
+    slice-write-map-2
+    add-t36
+    add-t38
+    same-length-3
+    same-length-4
+    same-length-5
+    returns-2
+    returns-3)

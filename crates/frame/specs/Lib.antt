@@ -1,0 +1,4 @@
+pub mod Map
+pub mod Frame
+pub mod Call
+pub mod Meaning

@@ -1,0 +1,11 @@
+pub mod Listing
+pub mod Answering
+pub mod Compressing
+pub mod OneBad
+pub mod Gating
+pub mod Initless
+pub mod Constraining
+pub mod Making
+pub mod Starting
+pub mod GateInitRight
+pub mod Cases

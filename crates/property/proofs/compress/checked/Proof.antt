@@ -1,0 +1,79 @@
+-- `property::compress::checked` meets its contract.
+-- Assumes nothing.
+use lib.ListN.{length}
+use lib.Dec.{leb}
+use borrow.Author.Tests.{lt-leb, le-leb}
+use Rattle.rows.specs.Sizes.{maxEntries}
+use Rattle.graph.specs.Graph.{Lent, lent}
+use Rattle.property.specs.Compress.{compressRoom, compressChecked}
+use Rattle.property.proofs.Answering.{limit-passed, check-stops, check-right, check-room, check-full}
+use Rattle.property.proofs.Compressing.{or-room, or-ready}
+use borrow.Author.Needs.{needs}
+use Rattle.property.proofs.compress.checked.Statement.{statement}
+use Rattle.property.proofs.compress.checked.Tie as tie
+
+graph : tie.Start → Lent
+graph c =
+    let a = c .args in
+    lent (a .rows .now) (a .inputs .now) (a .latches .now) (a .constraints .now) (a .bads .now) (a .outputs .now) (a .ends .now) (a .edges .now) (a .fairness .now) (a .counts)
+
+returns : tie.Need-returns
+unfolding graph compressChecked
+returns c =
+    let o = (c .before .before .before .before .before .before .before .before .before .before .before .before) .args .old .now in
+    limit-passed (leb (length o) maxEntries) (compressRoom (graph (c .before .before .before .before .before .before .before .before .before .before .before .before)) o) (graph (c .before .before .before .before .before .before .before .before .before .before .before .before)) ((c .before .before .before .before .before .before .before .before .before .before .before .before) .args .marks .now) (lt-leb (length o) maxEntries (c .if1 .taken))
+
+check-requires : tie.Need-check-requires
+check-requires c κs = search needs
+
+is-done-requires : tie.Need-is-done-requires
+is-done-requires c κs = search needs
+
+same-length : tie.Need-same-length
+same-length c = search needs
+
+returns-2 : tie.Need-returns-2
+unfolding graph compressChecked
+returns-2 c =
+    let o = (c .before .before .before .before .before .before .before .before .before .before .before .before .before .before .before .before .before .before) .args .old .now in
+    check-stops (leb (length o) maxEntries) (compressRoom (graph (c .before .before .before .before .before .before .before .before .before .before .before .before .before .before .before .before .before .before)) o) (graph (c .before .before .before .before .before .before .before .before .before .before .before .before .before .before .before .before .before .before)) ((c .before .before .before .before .before .before .before .before .before .before .before .before .before .before .before .before .before .before) .args .marks .now) (le-leb (length o) maxEntries (c .before .before .before .before .before .before .if1 .left)) (c .before .before .before .before .check .result) (c .before .before .before .before .check .ensures) (c .before .is-done .ensures) (c .if2 .taken)
+
+rows-of-or-requires : tie.Need-rows-of-or-requires
+unfolding graph
+rows-of-or-requires c κs =
+    let o = (c .before .before .before .before .before .before .before .before .before .before .before .before .before .before .before .before .before .before) .args .old .now in
+    let r = check-right (leb (length o) maxEntries) (compressRoom (graph (c .before .before .before .before .before .before .before .before .before .before .before .before .before .before .before .before .before .before)) o) (graph (c .before .before .before .before .before .before .before .before .before .before .before .before .before .before .before .before .before .before)) ((c .before .before .before .before .before .before .before .before .before .before .before .before .before .before .before .before .before .before) .args .marks .now) (le-leb (length o) maxEntries (c .before .before .before .before .before .before .if1 .left)) (c .before .before .before .before .check .result) (c .before .before .before .before .check .ensures) (c .before .is-done .ensures) (c .if2 .left) in
+    or-ready (graph (c .before .before .before .before .before .before .before .before .before .before .before .before .before .before .before .before .before .before)) _ (r .0)
+
+same-length-2 : tie.Need-same-length-2
+same-length-2 c = search needs
+
+returns-3 : tie.Need-returns-3
+unfolding graph compressChecked
+returns-3 c =
+    let o = (c .before .before .before .before .before .before .before .before .before .before .before .before .before .before .before .before .before .before .before .before) .args .old .now in
+    check-room (leb (length o) maxEntries) (compressRoom (graph (c .before .before .before .before .before .before .before .before .before .before .before .before .before .before .before .before .before .before .before .before)) o) (graph (c .before .before .before .before .before .before .before .before .before .before .before .before .before .before .before .before .before .before .before .before)) ((c .before .before .before .before .before .before .before .before .before .before .before .before .before .before .before .before .before .before .before .before) .args .marks .now) (le-leb (length o) maxEntries (c .before .before .before .before .before .before .before .before .if1 .left)) (c .before .before .before .before .before .before .check .result) (c .before .before .before .before .before .before .check .ensures) (c .before .before .before .is-done .ensures) (c .before .before .if2 .left) (or-room (graph (c .before .before .before .before .before .before .before .before .before .before .before .before .before .before .before .before .before .before .before .before)) o (c .before .rows-of-or .ensures) (c .if3 .taken))
+
+same-length-3 : tie.Need-same-length-3
+same-length-3 c = search needs
+
+returns-4 : tie.Need-returns-4
+unfolding graph compressChecked
+returns-4 c =
+    let o = (c .before .before .before .before .before .before .before .before .before .before .before .before .before .before .before .before .before .before .before .before) .args .old .now in
+    check-full (leb (length o) maxEntries) (compressRoom (graph (c .before .before .before .before .before .before .before .before .before .before .before .before .before .before .before .before .before .before .before .before)) o) (graph (c .before .before .before .before .before .before .before .before .before .before .before .before .before .before .before .before .before .before .before .before)) ((c .before .before .before .before .before .before .before .before .before .before .before .before .before .before .before .before .before .before .before .before) .args .marks .now) (le-leb (length o) maxEntries (c .before .before .before .before .before .before .before .before .if1 .left)) (c .before .before .before .before .before .before .check .result) (c .before .before .before .before .before .before .check .ensures) (c .before .before .before .is-done .ensures) (c .before .before .if2 .left) (or-room (graph (c .before .before .before .before .before .before .before .before .before .before .before .before .before .before .before .before .before .before .before .before)) o (c .before .rows-of-or .ensures) (c .if3 .left))
+
+pub checked-spec : {M : Type 1} → statement M
+checked-spec =
+    tie.close
+    (tie.spec
+    returns
+    check-requires
+    is-done-requires
+    same-length
+    returns-2
+    rows-of-or-requires
+    same-length-2
+    returns-3
+    same-length-3
+    returns-4)

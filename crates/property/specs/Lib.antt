@@ -1,0 +1,4 @@
+pub mod Checking
+pub mod Compress
+pub mod GateInit
+pub mod Meaning

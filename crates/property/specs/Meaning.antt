@@ -1,0 +1,135 @@
+-- What the calls mean.
+-- Assumes nothing.
+use Prim.Native.Nat.{ℕ, _+_, _*_, _≤_, _<_}
+use mathlib.Core.Path.{_≡_}
+use mathlib.Core.Bool.{Bool, true, false, cond, not, _||_}
+use mathlib.Core.Logic.{_↔_}
+use mathlib.Core.List.{List}
+use lib.ListN.{length, getD}
+use Rattle.edge.specs.Answers.{done}
+use Rattle.edge.specs.Edges.{constantOf}
+use Rattle.edge.specs.Meaning.{edgeValue}
+use Rattle.rows.specs.Sizes.{maxEntries, rowsLent}
+use Rattle.rows.specs.Rows.{none}
+use Rattle.rows.specs.Value.{value}
+use Rattle.graph.specs.Latches.{latchesLent, latchAt}
+use Rattle.graph.specs.Graph.{Lent, lent, Sized}
+use Rattle.graph.specs.WellFormed.{UsedLeaf, WellFormed}
+use Rattle.gates.specs.Meaning.{anyTrue}
+use Rattle.graph.specs.Count.{countBelow}
+use Rattle.renumber.specs.Kept.{SameBefore}
+use Rattle.copy.specs.Meaning.{Front}
+use Rattle.property.specs.Compress.{badsOf, orOf, oneBad, compressCall}
+use Rattle.property.specs.GateInit.{isGated, partOf, gatedAll, newLatch, gateInitCall}
+
+-- the value of an edge of g, where `leaf` chooses the leaves' values
+abbrev pub valueIn : Lent → (ℕ → Bool) → ℕ → Bool
+valueIn g leaf e = edgeValue (value (g .rows) leaf) e
+
+-- the used rows of g stand in `after` with their words, and so with their values
+pub record RowsKept (g after : Lent) : Type 0 where
+  pub more : g .counts .rows ≤ after .counts .rows
+  pub words : SameBefore (2 * g .counts .rows) (g .rows) (after .rows)
+  pub values : (leaf : ℕ → Bool) (i : ℕ) → i < g .counts .rows → value (after .rows) leaf i ≡ value (g .rows) leaf i
+
+-- ---- all bads become one
+-- what is lent is right, and there is room
+pub record CompressLent (g : Lent) (old : List ℕ) (marks : ℕ) : Type 0 where
+  pub limited : length old ≤ maxEntries
+  pub sized : Sized g marks
+  pub well-formed : WellFormed g
+  pub rows : orOf g .used ≤ rowsLent (g .rows)
+  pub one : 0 < length (g .bads)
+  pub back : g .counts .bads ≤ length old
+
+pub record OneBad (g after : Lent) : Type 0 where
+  pub kept : RowsKept g after
+  pub counts : after .counts ≡ oneBad (g .counts) (after .counts .rows)
+  -- "the or of all": it is true exactly if some old bad is, whatever the leaves' values
+  pub bad : (leaf : ℕ → Bool) → valueIn after leaf (getD (after .bads) 0 0) ≡ anyTrue (valueIn g leaf) (badsOf g)
+  -- "constant false if there were none"
+  pub no-bad : g .counts .bads ≡ 0 → getD (after .bads) 0 0 ≡ constantOf false
+  -- the bad words past it, and every other list, are as they were
+  pub past : (j : ℕ) → 0 < j → getD (after .bads) j 0 ≡ getD (g .bads) j 0
+  pub others : after ≡ lent (after .rows) (g .inputs) (g .latches) (g .constraints) (after .bads) (g .outputs) (g .ends) (g .edges) (g .fairness) (after .counts)
+  -- the result may be given to any call
+  pub sized : (marks : ℕ) → after .counts .rows ≤ marks → Sized after marks
+  pub well-formed : WellFormed after
+
+-- `compress_property` is done exactly where what is lent is right and there is room. Else the graph and the room for the old list are as they were.
+pub record CompressRight (g : Lent) (old marks : List ℕ) : Type 0 where
+  pub accepts : CompressLent g old (length marks) → compressCall g old marks .given ≡ done
+  pub accepted : compressCall g old marks .given .number ≡ 0 → CompressLent g old (length marks)
+  pub compresses : compressCall g old marks .given .number ≡ 0 → OneBad g (compressCall g old marks .graph)
+  -- "hands back the old list", at the front of the list lent for it
+  pub hands-back : compressCall g old marks .given .number ≡ 0 → Front (g .counts .bads) (g .bads) old (compressCall g old marks .old)
+  pub refused : (compressCall g old marks .given .number ≡ 0 → ⊥) → (compressCall g old marks .graph ≡ g) × (compressCall g old marks .old ≡ old)
+
+-- ---- inits become constraints
+abbrev pub gatedAt : Lent → ℕ → Bool
+gatedAt g i = isGated (latchAt (g .latches) i)
+
+pub record GateRoom (g : Lent) : Type 0 where
+  pub rows : gatedAll (partOf g) .used ≤ rowsLent (g .rows)
+  pub latches : g .counts .latches < latchesLent (g .latches)
+  pub constraints : gatedAll (partOf g) .count ≤ length (g .constraints)
+
+-- what is lent is right, and there is room where a latch has such an init
+pub record GateInitLent (g : Lent) (marks : ℕ) : Type 0 where
+  pub sized : Sized g marks
+  pub well-formed : WellFormed g
+  pub room : (i : ℕ) → i < g .counts .latches → gatedAt g i ≡ true → GateRoom g
+
+-- the new latch's row
+abbrev pub newRow : Lent → ℕ
+newRow g = g .counts .rows
+
+-- the place of the constraint for latch i: one follows the other in latch order
+abbrev pub placeOf : Lent → ℕ → ℕ
+placeOf g i = g .counts .constraints + countBelow (gatedAt g) i
+
+-- latch i has the value of its init, under these leaf values; and as a truth value
+abbrev pub StartsAt : Lent → (ℕ → Bool) → ℕ → Type 0
+StartsAt g leaf i = leaf (latchAt (g .latches) i .input) ≡ valueIn g leaf (latchAt (g .latches) i .init)
+
+abbrev pub equal : Bool → Bool → Bool
+equal a b = cond a b (not b)
+
+-- every new constraint is true
+abbrev pub NewHold : Lent → Lent → (ℕ → Bool) → Type 0
+NewHold g after leaf = (k : ℕ) → g .counts .constraints ≤ k → k < after .counts .constraints → valueIn after leaf (getD (after .constraints) k 0) ≡ true
+
+pub record Constrained (g after : Lent) : Type 0 where
+  pub kept : RowsKept g after
+  -- "one new latch (next false, init true) is added", of a new leaf
+  pub new-leaf : UsedLeaf after (newRow g)
+  pub latches : after .counts .latches ≡ g .counts .latches + 1
+  pub new-latch : latchAt (after .latches) (g .counts .latches) ≡ newLatch (newRow g)
+  -- "a latch with init of id other than 0 loses it", and else is as it was
+  pub inputs : (i : ℕ) → i < g .counts .latches → latchAt (after .latches) i .input ≡ latchAt (g .latches) i .input
+  pub nexts : (i : ℕ) → i < g .counts .latches → latchAt (after .latches) i .next ≡ latchAt (g .latches) i .next
+  pub lost : (i : ℕ) → i < g .counts .latches → gatedAt g i ≡ true → latchAt (after .latches) i .init ≡ none
+  pub left : (i : ℕ) → i < g .counts .latches → gatedAt g i ≡ false → latchAt (after .latches) i ≡ latchAt (g .latches) i
+  -- "per such latch a constraint", behind those that were there
+  pub old-constraints : SameBefore (g .counts .constraints) (g .constraints) (after .constraints)
+  pub constraints : after .counts .constraints ≡ placeOf g (g .counts .latches)
+  -- "new latch implies latch equals init"
+  pub each : (leaf : ℕ → Bool) (i : ℕ) → i < g .counts .latches → gatedAt g i ≡ true
+      → valueIn after leaf (getD (after .constraints) (placeOf g i) 0)
+      ≡ not (leaf (newRow g)) || equal (leaf (latchAt (g .latches) i .input)) (valueIn g leaf (latchAt (g .latches) i .init))
+  -- so at the start, where the new latch is true, they say that each such latch has the value of its init, and later, where it is false, nothing
+  pub start : (leaf : ℕ → Bool) → leaf (newRow g) ≡ true → NewHold g after leaf ↔ ((i : ℕ) → i < g .counts .latches → gatedAt g i ≡ true → StartsAt g leaf i)
+  pub later : (leaf : ℕ → Bool) → leaf (newRow g) ≡ false → NewHold g after leaf
+  -- every other list is as it was
+  pub others : after ≡ lent (after .rows) (g .inputs) (after .latches) (after .constraints) (g .bads) (g .outputs) (g .ends) (g .edges) (g .fairness) (after .counts)
+  -- the result may be given to any call
+  pub sized : (marks : ℕ) → after .counts .rows ≤ marks → Sized after marks
+  pub well-formed : WellFormed after
+
+-- `gate_init_to_constraint` is done exactly where what is lent is right and there is room. "No such latch: nothing changes."
+pub record GateInitRight (g : Lent) (marks : List ℕ) : Type 0 where
+  pub accepts : GateInitLent g (length marks) → gateInitCall g marks .given ≡ done
+  pub accepted : gateInitCall g marks .given .number ≡ 0 → GateInitLent g (length marks)
+  pub nothing : ((i : ℕ) → i < g .counts .latches → gatedAt g i ≡ false) → gateInitCall g marks .graph ≡ g
+  pub constrains : gateInitCall g marks .given .number ≡ 0 → (i : ℕ) → i < g .counts .latches → gatedAt g i ≡ true → Constrained g (gateInitCall g marks .graph)
+  pub refused : (gateInitCall g marks .given .number ≡ 0 → ⊥) → gateInitCall g marks .graph ≡ g

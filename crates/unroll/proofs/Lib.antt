@@ -1,0 +1,4 @@
+pub mod Starting
+pub mod Call
+pub mod Meaning
+pub mod Cases

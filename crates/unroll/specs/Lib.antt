@@ -1,0 +1,2 @@
+pub mod Unroll
+pub mod Meaning
