@@ -5,7 +5,7 @@
 #include <stdlib.h>
 #include <string.h>
 
-enum { SLOTS = 32, SCALARS = 32, LISTS = 9, TOLD = 16 };
+enum { SLOTS = 32, SCALARS = 32, LISTS = 9, BADS = 4, COUNTS = 4, TOLD = 16 };
 
 /* A lent slice: as many words as were given, so that one word too far is seen by a checker of memory. */
 typedef struct {
@@ -21,31 +21,62 @@ typedef struct {
 void sulandiro_merge(GRAPH_OUT, const uint64_t *, size_t, GRAPH_IN, const uint64_t *, size_t, OUT, uint64_t *, size_t);
 void sulandiro_reencode(GRAPH_IN, const uint64_t *, size_t, GRAPH_OUT, OUT, uint64_t *, size_t);
 void sulandiro_coi_refine(GRAPH_IN, const uint64_t *, size_t, GRAPH_OUT, OUT, OUT, uint64_t *, size_t);
+void sulandiro_unroll(GRAPH_OUT, const uint64_t *, size_t, GRAPH_IN, const uint64_t *, size_t, OUT, uint64_t *, size_t);
+void sulandiro_unroll_to(GRAPH_IN, const uint64_t *, size_t, uint64_t, GRAPH_OUT, OUT, uint64_t *, size_t);
+void sulandiro_aig_move(GRAPH_IN, const uint64_t *, size_t, GRAPH_OUT, OUT, uint64_t *, size_t);
+void sulandiro_compress_property(OUT, IN, IN, IN, OUT, IN, IN, IN, IN, const uint64_t *, size_t, OUT, OUT, uint64_t *, size_t);
+void sulandiro_gate_init_to_constraint(OUT, IN, OUT, OUT, IN, IN, IN, IN, IN, const uint64_t *, size_t, OUT, uint64_t *, size_t);
 
 static Slot slots[SLOTS];
 static int order[SLOTS];
 static uint64_t scalars[SCALARS];
 static uint64_t told[TOLD];
+static uint64_t results[TOLD];
+static int taken;
 
 #define S(i) slots[i].words, slots[i].len
 #define G(i) S(i), S(i + 1), S(i + 2), S(i + 3), S(i + 4), S(i + 5), S(i + 6), S(i + 7), S(i + 8)
 
-/* Makes the call and says how many results it has: -1 where there is no such call. */
+/* Takes what was told behind the answer, in the order of FORMAT.md: so many words from word `from` on. */
+static void take(int from, int n) {
+    for (int i = 0; i < n; i++) results[taken++] = told[from + i];
+}
+
+/* Makes the call and takes its results: 0 where there is no such call. */
 static int made(uint64_t call) {
     const uint64_t *first = scalars, *second = scalars + LISTS;
     switch (call) {
     case 70:
         sulandiro_merge(G(0), first, LISTS, G(9), second, LISTS, S(19), told, TOLD);
-        return LISTS;
+        break;
     case 71:
         sulandiro_reencode(G(0), first, LISTS, G(9), S(19), told, TOLD);
-        return LISTS;
+        break;
     case 72:
         sulandiro_coi_refine(G(0), first, LISTS, G(9), S(21), S(19), told, TOLD);
-        return LISTS;
+        break;
+    case 80:
+        sulandiro_unroll(G(0), first, LISTS, G(9), second, LISTS, S(19), told, TOLD);
+        break;
+    case 81:
+        sulandiro_unroll_to(G(9), first, LISTS, scalars[LISTS], G(0), S(19), told, TOLD);
+        take(COUNTS + LISTS, 1); /* the finished frames come before the counts */
+        break;
+    case 82:
+        sulandiro_aig_move(G(0), first, LISTS, G(9), S(19), told, TOLD);
+        break;
+    case 83:
+        sulandiro_compress_property(G(0), first, LISTS, S(21), S(19), told, TOLD);
+        break;
+    case 84:
+        sulandiro_gate_init_to_constraint(G(0), first, LISTS, S(19), told, TOLD);
+        break;
     default:
-        return -1;
+        return 0;
     }
+    take(COUNTS, LISTS);
+    if (call == 83) results[taken++] = told[0] == 0 ? first[BADS] : 0; /* the old bads that were handed back */
+    return 1;
 }
 
 /* The next number: 0 at the end. A word that begins with anything but a digit is passed over. */
@@ -85,11 +116,11 @@ static int slot_read(int *count) {
     return 1;
 }
 
-static void written(uint64_t call, int results, int count) {
+static void written(uint64_t call, int count) {
     printf("%llu", (unsigned long long)call);
     for (int i = 0; i < 4; i++) printf(" %llu", (unsigned long long)told[i]);
-    printf(" %d", results);
-    for (int i = 0; i < results; i++) printf(" %llu", (unsigned long long)told[4 + i]);
+    printf(" %d", taken);
+    for (int i = 0; i < taken; i++) printf(" %llu", (unsigned long long)results[i]);
     putchar('\n');
     for (int k = 0; k < count; k++) {
         Slot s = slots[order[k]];
@@ -111,9 +142,9 @@ int main(void) {
         if (!number(&m)) return unreadable();
         for (uint64_t i = 0; i < m; i++)
             if (!slot_read(&count)) return unreadable();
-        int results = made(call);
-        if (results < 0) return unreadable();
-        written(call, results, count);
+        taken = 0;
+        if (!made(call)) return unreadable();
+        written(call, count);
         for (int i = 0; i < SLOTS; i++) {
             free(slots[i].words);
             memset(&slots[i], 0, sizeof slots[i]);

@@ -7,6 +7,7 @@ mod compare;
 mod construct;
 mod damaged;
 mod exhaust;
+mod frames;
 mod graph;
 mod patterns;
 mod program;
@@ -31,6 +32,7 @@ use std::process::ExitCode;
 /// CALLS are numbers with a comma between them, or `all`.
 const USAGE: &str = "oracle compare COUNT SEED CALLS FOLDER PROGRAM [ARGUMENT]...
 oracle exhaust EVERY FOLDER PROGRAM [ARGUMENT]...
+oracle frames COUNT SEED FOLDER PROGRAM [ARGUMENT]...
 oracle solve COUNT SEED SOLVER FOLDER PROGRAM [ARGUMENT]...
 oracle sample write CALLS FOLDER
 oracle sample check CALLS FOLDER";
@@ -66,6 +68,11 @@ fn run(arguments: &[OsString]) -> Option<io::Result<bool>> {
         ["exhaust", every, _, _, ..] => {
             let every = every.parse().ok().filter(|&every| every > 0)?;
             Some(exhaust::exhaust(&program(&arguments[2..]), every))
+        }
+        ["frames", count, seed, _, _, ..] => {
+            let program = program(&arguments[3..]);
+            let (count, seed) = (count.parse().ok()?, seed.parse().ok()?);
+            Some(frames::frames(&program, count, seed))
         }
         ["solve", count, seed, _, folder, _, ..] => {
             let solver = Solver {

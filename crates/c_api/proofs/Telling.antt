@@ -7,7 +7,9 @@ use Rattle.edge.specs.Answers.{told}
 use Rattle.graph.specs.Graph.{Lent}
 use Rattle.renumber.specs.declared.Rebuilt.{Rebuilt}
 use Rattle.renumber.specs.Seen.{RebuiltSeen, rebuiltSeen, ListedSeen, listedSeen}
-use Rattle.c_api.specs.Rebuild.{ToldSeen, toldGraph, toldOf, toldListed, toldListedOf, toldRebuilt}
+use Rattle.unroll_to.specs.declared.Unrolled.{Unrolled}
+use Rattle.unroll_to.specs.Call.{FramesSeen, framesSeen}
+use Rattle.c_api.specs.Rebuild.{ToldSeen, toldGraph, toldOf, toldListed, toldListedOf, toldRebuilt, toldRan, toldFrames}
 
 module _ (before : List ℕ) (r : Rebuilt) (g : Lent) (m : List ℕ) {after : List ℕ} (w : after ≡ toldRebuilt before (told (r .answer)) (g .counts)) where
   seen : toldGraph g m after ≡ toldGraph g m (toldRebuilt before (told (r .answer)) (g .counts))
@@ -22,3 +24,9 @@ module _ (before : List ℕ) (r : Rebuilt) (g : Lent) (m : List ℕ) {after : Li
   tells-listed o promised e =
       ap (λ (s : ToldSeen). toldListed s o) seen
       ∙ ap (λ (s : ListedSeen). toldListed (toldGraph (s .graph) (s .marks) (toldRebuilt before (s .given) (s .graph .counts))) (s .old)) e
+
+pub tells-frames : (before : List ℕ) (r : Unrolled) (g : Lent) (m : List ℕ) {after : List ℕ} → after ≡ toldRan before (told (r .answer)) (g .counts) (r .finished)
+    → (promised : FramesSeen) → framesSeen r g m ≡ promised → toldGraph g m after ≡ toldFrames promised before
+unfolding toldFrames
+tells-frames before r g m w promised e =
+    ap (toldGraph g m) w ∙ ap (λ (s : FramesSeen). toldGraph (s .ran .graph) (s .marks) (toldRan before (s .ran .given) (s .ran .graph .counts) (s .ran .finished))) e

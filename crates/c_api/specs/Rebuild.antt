@@ -9,6 +9,7 @@ use Rattle.edge.specs.Answers.{determined}
 use Rattle.graph.specs.declared.Counts.{Counts}
 use Rattle.graph.specs.Graph.{Lent}
 use Rattle.renumber.specs.Seen.{RebuiltSeen, ListedSeen}
+use Rattle.unroll_to.specs.Call.{FramesSeen}
 use Rattle.c_api.specs.Words.{givenWords, countWords}
 
 -- the number and the place, then the counts, as far as there is room
@@ -30,6 +31,13 @@ toldGraph g marks told = toldSeen (g .rows) (g .inputs) (g .latches) (g .constra
 -- what a call leaves, told behind the words that were there
 unfoldable pub toldOf : RebuiltSeen → List ℕ → ToldSeen
 toldOf s told = toldGraph (s .graph) (s .marks) (toldRebuilt told (s .given) (s .graph .counts))
+
+-- behind the counts, how many frames are finished
+unfoldable pub toldRan : List ℕ → Given → Counts → ℕ → List ℕ
+toldRan told g n finished = sets (toldRebuilt told g n) 13 (finished ∷ [])
+
+unfoldable pub toldFrames : FramesSeen → List ℕ → ToldSeen
+toldFrames s told = toldGraph (s .ran .graph) (s .marks) (toldRan told (s .ran .given) (s .ran .graph .counts) (s .ran .finished))
 
 -- the list beside that a call hands back
 pub record ToldListed : Type 0 where

@@ -2,6 +2,7 @@
 mod numbers;
 mod properties;
 mod rebuild;
+mod unrolling;
 
 ghost use mathlib.Core.Path.{_≡_};
 ghost use Rattle.graph.specs.Graph.{lent};

@@ -4,10 +4,11 @@ ghost use lib.ListN.{getD, set};
 ghost use lib.Seq.{sets};
 ghost use Rattle.edge.specs.Answers.{told as toldOf};
 ghost use Rattle.c_api.specs.Words.{countsIn, givenWords, countWords};
-ghost use Rattle.c_api.specs.Rebuild.{toldRebuilt};
+ghost use Rattle.c_api.specs.Rebuild.{toldRebuilt, toldRan};
 use edge::Answer;
 use graph::Counts;
 use renumber::Rebuilt;
+use unroll_to::Unrolled;
 
 // Word i, and 0 where there is none.
 fn at(words: &[u64], i: usize) -> usize
@@ -81,4 +82,16 @@ pub fn tell_rebuilt(told: &mut [u64], r: Rebuilt)
     let n = r.counts;
     tell(told, a);
     tell_counts(told, n);
+}
+
+// The same, and behind the counts how many frames are finished.
+pub fn tell_frames(told: &mut [u64], r: Unrolled)
+    ensures { λ _. ⌜ now (told .exit) ≡ toldRan (now (told .entry)) (toldOf (r .answer)) (r .counts) (r .finished) ⌝ }
+{
+    let a = r.answer;
+    let n = r.counts;
+    let finished = r.finished;
+    tell(told, a);
+    tell_counts(told, n);
+    put(told, 13, finished as u64);
 }

@@ -20,7 +20,7 @@ pub const COMPRESS: u64 = 83;
 pub const GATE_INIT: u64 = 84;
 
 pub const CALLS: &[Call] = &[
-    call(MOVE, "property::aig_move", random_move, moved),
+    call(MOVE, "aig_move::aig_move", random_move, moved),
     call(
         COMPRESS,
         "property::compress_property",

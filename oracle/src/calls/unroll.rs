@@ -34,7 +34,7 @@ pub const CALLS: &[Call] = &[
     },
     Call {
         number: UNROLL_TO,
-        name: "unroll::unroll_to",
+        name: "unroll_to::unroll_to",
         random: random_to,
         expected: expected_to,
         counts: &COUNTS_TO,
@@ -236,7 +236,7 @@ fn few_frames(rng: &mut Rng) -> u64 {
 }
 
 /// Latches and gates that fold in every frame, with few outputs.
-fn idle(rng: &mut Rng) -> Lent {
+pub fn idle(rng: &mut Rng) -> Lent {
     let mut graph = Lent::new();
     let latches = rng.between(1, 4) as u32;
     graph.words[ROWS].extend(LEAF.repeat(latches as usize));

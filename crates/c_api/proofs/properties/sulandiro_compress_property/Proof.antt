@@ -1,3 +1,5 @@
+-- `c_api::properties::sulandiro_compress_property` meets its contract.
+-- Assumes nothing.
 use Rattle.graph.specs.Graph.{lent}
 use Rattle.property.specs.Compress.{compressCall}
 use Rattle.c_api.specs.Words.{countsIn}
@@ -5,45 +7,31 @@ use Rattle.c_api.proofs.Telling.{tells-listed}
 use borrow.Author.Needs.{needs}
 use Rattle.c_api.proofs.properties.sulandiro_compress_property.Statement.{statement}
 use Rattle.c_api.proofs.properties.sulandiro_compress_property.Tie as tie
-use Rattle.c_api.proofs.properties.sulandiro_compress_property.Reads as reads
-use Rattle.c_api.proofs.properties.sulandiro_compress_property.Lts as lts
-use Rattle.c_api.proofs.numbers.counts_in.Reads as counts-in-reads
-use Rattle.c_api.proofs.numbers.tell_rebuilt.Reads as tell-rebuilt-reads
-use Rattle.property.proofs.compress_property.Reads as compress-property-reads
 
--- src/properties.rt:95:9
 counts-in-requires : tie.Need-counts-in-requires
 counts-in-requires c κs = search needs
 
--- src/properties.rt:96:9
 compress-property-requires : tie.Need-compress-property-requires
 compress-property-requires c κs = search needs
 
--- src/properties.rt:110:5
 tell-rebuilt-requires : tie.Need-tell-rebuilt-requires
 tell-rebuilt-requires c κs = search needs
 
--- src/properties.rt:72:1
 same-length : tie.Need-same-length
 same-length c = search needs
 
--- src/properties.rt:72:1
 same-length-2 : tie.Need-same-length-2
 same-length-2 c = search needs
 
--- src/properties.rt:72:1
 same-length-3 : tie.Need-same-length-3
 same-length-3 c = search needs
 
--- src/properties.rt:72:1
 same-length-4 : tie.Need-same-length-4
 same-length-4 c = search needs
 
--- src/properties.rt:72:1
 same-length-5 : tie.Need-same-length-5
 same-length-5 c = search needs
 
--- src/properties.rt:72:1
 returns : tie.Need-returns
 returns c = tells-listed (c .before .before .before .before .before .before .before .before .before .before .before .before .before .before .before .before .before .before .before .before .before .before .before .before .before .before .before .before .before .before .before .args .told .now) (c .before .before .before .before .before .before .before .before .before .before .before .before .compress-property .result) (lent _ _ _ _ _ _ _ _ _ (c .before .before .before .before .before .before .before .before .before .before .before .before .compress-property .result .counts)) _ (c .before .before .tell-rebuilt .ensures) _ (compressCall (lent (c .before .before .before .before .before .before .before .before .before .before .before .before .before .before .before .before .before .before .before .before .before .before .before .before .before .before .before .before .before .before .before .args .rows .now) (c .before .before .before .before .before .before .before .before .before .before .before .before .before .before .before .before .before .before .before .before .before .before .before .before .before .before .before .before .before .before .before .args .inputs .now) (c .before .before .before .before .before .before .before .before .before .before .before .before .before .before .before .before .before .before .before .before .before .before .before .before .before .before .before .before .before .before .before .args .latches .now) (c .before .before .before .before .before .before .before .before .before .before .before .before .before .before .before .before .before .before .before .before .before .before .before .before .before .before .before .before .before .before .before .args .constraints .now) (c .before .before .before .before .before .before .before .before .before .before .before .before .before .before .before .before .before .before .before .before .before .before .before .before .before .before .before .before .before .before .before .args .bads .now) (c .before .before .before .before .before .before .before .before .before .before .before .before .before .before .before .before .before .before .before .before .before .before .before .before .before .before .before .before .before .before .before .args .outputs .now) (c .before .before .before .before .before .before .before .before .before .before .before .before .before .before .before .before .before .before .before .before .before .before .before .before .before .before .before .before .before .before .before .args .ends .now) (c .before .before .before .before .before .before .before .before .before .before .before .before .before .before .before .before .before .before .before .before .before .before .before .before .before .before .before .before .before .before .before .args .edges .now) (c .before .before .before .before .before .before .before .before .before .before .before .before .before .before .before .before .before .before .before .before .before .before .before .before .before .before .before .before .before .before .before .args .fairness .now) (countsIn (c .before .before .before .before .before .before .before .before .before .before .before .before .before .before .before .before .before .before .before .before .before .before .before .before .before .before .before .before .before .before .before .args .counts .now))) (c .before .before .before .before .before .before .before .before .before .before .before .before .before .before .before .before .before .before .before .before .before .before .before .before .before .before .before .before .before .before .before .args .old .now) (c .before .before .before .before .before .before .before .before .before .before .before .before .before .before .before .before .before .before .before .before .before .before .before .before .before .before .before .before .before .before .before .args .marks .now)) (rw (← (c .before .before .before .before .before .before .before .before .before .before .before .before .before .before .before .before .before .counts-in .ensures)) (c .before .before .before .before .before .before .before .before .before .before .before .before .compress-property .ensures))
 

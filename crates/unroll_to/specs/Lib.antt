@@ -1,0 +1,4 @@
+pub mod Frames
+pub mod Ready
+pub mod Call
+pub mod Meaning

@@ -1,0 +1,58 @@
+-- What the unrolled copy is.
+-- Assumes nothing.
+use Prim.Native.Nat.{ℕ, zero, suc, _≤_, _<_}
+use mathlib.Core.Path.{_≡_}
+use mathlib.Core.Bool.{true, false}
+use mathlib.Core.List.{List}
+use lib.ListN.{length}
+use Rattle.edge.specs.Answers.{done, noRoom}
+use Rattle.graph.specs.Graph.{Lent, Sized}
+use Rattle.graph.specs.Check.{cleared}
+use Rattle.graph.specs.WellFormed.{WellFormed}
+use Rattle.renumber.specs.Room.{Limited, Room}
+use Rattle.copy.specs.Copying.{copyOf}
+use Rattle.frame.specs.Frame.{framed, frameFits}
+use Rattle.frame.specs.Call.{FrameReady}
+use Rattle.unroll_to.specs.Call.{maxFrames, Ran, emptied, unrollToCall}
+
+-- k single frames of b, one after the other, as `unroll` adds each
+unfoldable pub afterFrames : Lent → ℕ → Lent → Lent
+afterFrames b zero a = a
+afterFrames b (suc k) a = framed (afterFrames b k a) b
+
+-- of n frames so many are finished, and stand: they fit, each where it was added, and where some are missing the next does not
+pub record Standing (b a : Lent) (n finished : ℕ) (graph : Lent) : Type 0 where
+  pub within : finished ≤ n
+  pub frames : graph ≡ afterFrames b finished a
+  pub fit : (k : ℕ) → k < finished → frameFits (afterFrames b k a) b ≡ true
+  pub full : finished < n → frameFits (afterFrames b finished a) b ≡ false
+
+-- what is lent to the call is right
+pub record UnrollLent (g out : Lent) (n : ℕ) (marks : List ℕ) : Type 0 where
+  pub limited : Limited out
+  pub sized : Sized g (length marks)
+  pub well-formed : WellFormed g
+  pub few : n ≤ maxFrames
+
+-- what a call with room for the copy leaves
+pub record Unrolls (g out : Lent) (n : ℕ) (marks : List ℕ) (r : Ran) : Type 0 where
+  -- the copy is unrolled frame by frame
+  pub standing : Standing g (copyOf (g .counts) g out) n (r .finished) (r .graph)
+  -- done exactly where all frames are finished
+  pub all : r .finished ≡ n → r .given ≡ done
+  pub some : r .finished < n → r .given ≡ noRoom
+  -- the result is sized and well-formed, and can be unrolled on
+  pub ready : FrameReady (r .graph) g (length marks)
+
+pub record UnrollToRight (g out : Lent) (n : ℕ) (marks : List ℕ) : Type 0 where
+  pub unrolls : UnrollLent g out n marks → Room out (g .counts) → Unrolls g out n marks (unrollToCall g out n marks .ran)
+  -- "if the copy itself doesn't fit, nothing is written and the number is 0"
+  pub no-copy : UnrollLent g out n marks → (Room out (g .counts) → ⊥)
+      → (unrollToCall g out n marks .ran .given ≡ noRoom) × (unrollToCall g out n marks .ran .finished ≡ 0) × (unrollToCall g out n marks .ran .graph ≡ emptied out)
+  -- done only where what is lent is right, the copy fits and all frames are finished
+  pub accepted : unrollToCall g out n marks .ran .given .number ≡ 0 → UnrollLent g out n marks × Room out (g .counts) × (unrollToCall g out n marks .ran .finished ≡ n)
+  -- where something lent is wrong nothing is written
+  pub refused : (UnrollLent g out n marks → ⊥) → (unrollToCall g out n marks .ran .finished ≡ 0) × (unrollToCall g out n marks .ran .graph ≡ out)
+  -- "Work marks are zero at exit over the rows used at entry, except after 1, when they are untouched"
+  pub untouched : unrollToCall g out n marks .ran .given .number ≡ 1 → unrollToCall g out n marks .marks ≡ marks
+  pub zeroed : (unrollToCall g out n marks .ran .given .number ≡ 1 → ⊥) → unrollToCall g out n marks .marks ≡ cleared (g .counts .rows) marks
