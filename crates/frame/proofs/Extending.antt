@@ -4,22 +4,22 @@ use Prim.Native.Nat.{ℕ, zero, suc, _+_, _*_, _≤_, _<_}
 use native.Mathlib.Omega.{arith}
 use native.Mathlib.Nat.{eq-or-lt-of-le}
 use mathlib.Core.Path.{_≡_, refl, sym, ap, _∙_}
-use mathlib.Core.Bool.{Bool, true, false, or-true}
+use mathlib.Core.Bool.{Bool, true, false}
 use mathlib.Core.Logic.{_⊎_, inl, inr, ⊎-elim}
 use mathlib.Core.List.{List}
 use lib.ListN.{length, getD, set, replicate, getD-replicate, length-set, length-replicate}
 use lib.Seq.{getD-set-same, getD-set-other}
 use lib.Dec.{eqb}
-use borrow.Author.Tests.{eqb-true, eqb-false, lt-ltb}
+use borrow.Author.Tests.{eqb-true, eqb-false}
 use Rattle.edge.specs.Edges.{idOf, isComplemented}
 use Rattle.edge.proofs.Tests.{lt-or-le}
 use Rattle.rows.specs.Sizes.{rowsLent}
-use Rattle.rows.specs.Rows.{none, word0, word1, isFalseRow, isLeaf, isRow, leafAt, gateAt}
+use Rattle.rows.specs.Rows.{none, word0, word1, leafAt, gateAt}
 use Rattle.rows.proofs.Laws.{gate-below}
 use Rattle.graph.specs.Latches.{latchAt}
 use Rattle.gates.specs.Gates.{state}
 use Rattle.gates.specs.Meaning.{Grows}
-use Rattle.gates.proofs.Growing.{row-first, row-second, row-grows, and-grows, grows-on, grows-none, grows-with, signed-id}
+use Rattle.gates.proofs.Growing.{leaf-here, leaf-row, row-first, row-second, row-grows, and-grows, grows-on, grows-none, grows-with, signed-id}
 use Rattle.frame.specs.Map.{mapped, nextsMapped, startMap}
 use Rattle.frame.specs.Frame.{Frame, gatePlaced, leafPlaced, frameRow, frameRows}
 use Rattle.frame.specs.Meaning.{NewLeaf, Extends, MapUsed}
@@ -70,15 +70,6 @@ extends-on o s t e f =
         (λ (q : j < s .listed). rw (f .kept j q) (omega (arith, e .new j h q .below, f .new k p m .behind)))
         (λ (q : s .listed ≤ j). f .rise j k q l m)
         (lt-or-le j (s .listed))
-
--- ---- a leaf at a later row
-leaf-here : (used : ℕ) → 0 < used → isLeaf used none 0 ≡ true
-unfolding isLeaf
-leaf-here used some = rw (lt-ltb 0 used some)
-
-leaf-row : (used : ℕ) → 0 < used → isRow used none 0 ≡ true
-unfolding isRow
-leaf-row used some = rw (leaf-here used some, or-true (isFalseRow used none 0))
 
 -- ---- one row
 module _ (from : List ℕ) (i : ℕ) (s : Frame) (some : 0 < s .used) (has : i < length (s .map)) (sound : MapUsed i s) where

@@ -1,4 +1,3 @@
-pub mod Listing
 pub mod Answering
 pub mod Compressing
 pub mod OneBad

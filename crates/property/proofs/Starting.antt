@@ -265,6 +265,7 @@ module _ (g : Lent) (marks : ℕ) (z : Sized g marks) (w : WellFormed g) (room :
       record {
         kept = record { more = grows .more; words = grows .kept; values = grows-value (g .rows) used (state (s .rows) (s .used) 0) grows };
         new-leaf = (omega (arith, m .grows .more), is-leaf);
+        counts = refl;
         latches = refl;
         new-latch = latch-set-at taken n (newLatch used) latch-room;
         inputs = λ i l. ap (λ (x : Latch). x .input) (old-latch i l) ∙ initless-input (latchAt (g .latches) i);

@@ -20,7 +20,7 @@ use Rattle.graph.specs.Count.{countBelow}
 use Rattle.renumber.specs.Kept.{SameBefore}
 use Rattle.copy.specs.Meaning.{Front}
 use Rattle.property.specs.Compress.{badsOf, orOf, oneBad, compressCall}
-use Rattle.property.specs.GateInit.{isGated, partOf, gatedAll, newLatch, gateInitCall}
+use Rattle.property.specs.GateInit.{isGated, partOf, gatedAll, gatedCounts, newLatch, gateInitCall}
 
 -- the value of an edge of g, where `leaf` chooses the leaves' values
 abbrev pub valueIn : Lent → (ℕ → Bool) → ℕ → Bool
@@ -101,6 +101,7 @@ NewHold g after leaf = (k : ℕ) → g .counts .constraints ≤ k → k < after 
 
 pub record Constrained (g after : Lent) : Type 0 where
   pub kept : RowsKept g after
+  pub counts : after .counts ≡ gatedCounts (g .counts) (after .counts .rows) (after .counts .constraints)
   -- "one new latch (next false, init true) is added", of a new leaf
   pub new-leaf : UsedLeaf after (newRow g)
   pub latches : after .counts .latches ≡ g .counts .latches + 1

@@ -29,7 +29,7 @@ use Rattle.unroll.specs.Unroll.{sameStart, unrollChecked, unrollAnswer, 
 use Rattle.unroll.proofs.Starting.{start-same}
 
 -- the same graph with marks for itself alone
-alone : (g : Lent) (m n : ℕ) → Sized g m → g .counts .rows ≤ n → Sized g n
+pub alone : (g : Lent) (m n : ℕ) → Sized g m → g .counts .rows ≤ n → Sized g n
 alone g m n s h =
     record { rows = s .rows; marked = h; inputs = s .inputs; latches = s .latches; constraints = s .constraints; bads = s .bads; outputs = s .outputs; ends = s .ends; edges = s .edges; fairness = s .fairness }
 

@@ -11,17 +11,24 @@ use lib.Dec.{eqb, leb}
 use borrow.Author.Tests.{eq-eqb, ne-eqb, eqb-true, eqb-false, le-leb, leb-true, lt-ltb, le-ltb}
 use Rattle.edge.specs.declared.answer.Given.{Given}
 use Rattle.edge.specs.Answers.{done, noRoom}
-use Rattle.edge.proofs.Tests.{lt-or-le}
+use Rattle.edge.proofs.Tests.{lt-or-le, false-true}
 use Rattle.graph.specs.Graph.{Lent}
 use Rattle.renumber.specs.Room.{hasRoom, Room}
 use Rattle.renumber.proofs.Fitting.{limited, limits-true, roomy, room-true}
 use Rattle.copy.specs.Copying.{copyOf}
+use Rattle.copy.proofs.Copying.{is-copy}
 use Rattle.copy.proofs.Asking.{asked-accepted, asked-accepts, asked-cleared, asked-untouched}
 use Rattle.frame.specs.Frame.{framed, frameFits}
 use Rattle.frame.specs.Call.{FrameReady}
+use Rattle.frame.specs.Meaning.{FrameAdded}
+use Rattle.frame.proofs.Meaning.{frame-added}
+use Rattle.unroll.specs.Unroll.{unrollAnswer, unrollCall}
+use Rattle.unroll.specs.Meaning.{TwoGraphs}
+use Rattle.unroll.proofs.Call.{alone}
+use Rattle.unroll.proofs.Meaning.{unroll-right}
 use Rattle.unroll_to.specs.Frames.{Frames, frames, framesOn, unrolled}
 use Rattle.unroll_to.specs.Call.{maxFrames, unrollAsked, Ran, ran, framesAnswer, framesRan, emptied, unrollRan, unrollToCall}
-use Rattle.unroll_to.specs.Meaning.{afterFrames, Standing, UnrollLent, Unrolls, UnrollToRight}
+use Rattle.unroll_to.specs.Meaning.{afterFrames, Standing, SingleFrames, UnrollLent, Unrolls, UnrollToRight}
 use Rattle.unroll_to.proofs.Going.{ready-again}
 use Rattle.unroll_to.proofs.Starting.{frame-ready}
 
@@ -69,6 +76,39 @@ ready-after : (b a : Lent) (marks : ℕ) → FrameReady a b marks → (k : ℕ) 
 unfolding afterFrames
 ready-after b a marks r zero fit = r
 ready-after b a marks r (suc k) fit = ready-again (afterFrames b k a) b marks (ready-after b a marks r k (λ i l. fit i (omega arith))) (fit k (omega arith))
+
+-- ---- each as a single `unroll`
+module _ (a b : Lent) (m : ℕ) (r : FrameReady a b m) (marks : List ℕ) (l : a .counts .rows ≤ length marks) where
+  graphs : TwoGraphs a b (length marks)
+  graphs =
+      record {
+        sized = record { first = alone a (a .counts .rows) (length marks) (r .target) l; second = alone b m (length marks) (r .from) (omega (arith, r .start .more)) };
+        target = r .target-formed;
+        from = r .from-formed;
+      }
+
+  adds-one : frameFits a b ≡ true → unrollCall a b marks .graph ≡ framed a b
+  unfolding frameFits unrollCall
+  adds-one f =
+      let z = unroll-right a b marks .accepts (record { graphs = graphs; start = r .start; room = roomy a (framed a b .counts) f }) in
+      rw (eq-eqb (unrollAnswer a b marks .number) 0 z)
+
+  adds-none : frameFits a b ≡ false → unrollCall a b marks .given ≡ noRoom
+  unfolding frameFits
+  adds-none f = unroll-right a b marks .refuses-room graphs (r .start) (λ room. false-true (sym f ∙ room-true a (framed a b .counts) room))
+
+single : (b a : Lent) (m n finished : ℕ) (graph : Lent) → FrameReady a b m → Standing b a n finished graph → SingleFrames b a n finished
+unfolding afterFrames
+single b a m n finished graph r t =
+    record {
+      adds = λ k l marks c. adds-one (afterFrames b k a) b m (ready-after b a m r k (λ i j. t .fit i (omega arith))) marks c (t .fit k l);
+      no-more = λ l marks c. adds-none (afterFrames b finished a) b m (ready-after b a m r finished (t .fit)) marks c (t .full l);
+    }
+
+added : (b a : Lent) (m n finished : ℕ) (graph : Lent) → FrameReady a b m → Standing b a n finished graph → (k : ℕ) → k < finished → FrameAdded (afterFrames b k a) b (afterFrames b (suc k) a)
+unfolding afterFrames frameFits
+added b a m n finished graph r t k l =
+    frame-added (afterFrames b k a) b m (record { ready = ready-after b a m r k (λ i j. t .fit i (omega arith)); room = roomy (afterFrames b k a) (framed (afterFrames b k a) b .counts) (t .fit k l) })
 
 -- ---- the call
 module _ (g out : Lent) (n : ℕ) (marks : List ℕ) where
@@ -126,12 +166,16 @@ module _ (g out : Lent) (n : ℕ) (marks : List ℕ) where
   unrolls : UnrollLent g out n marks → Room out (g .counts) → Unrolls g out n marks seen
   unrolls l r =
       let t = is-standing in
+      let f = frame-ready g out (length marks) (l .sized) (l .well-formed) r (l .limited) in
       rw (seen-room l r)
       (record {
         standing = t;
+        single = single g copy (length marks) n (s .finished) (s .graph) f t;
+        copy = is-copy (g .counts) g out r;
+        each = added g copy (length marks) n (s .finished) (s .graph) f t;
         all = all-done;
         some = some-missed;
-        ready = rw (t .frames) (ready-after g copy (length marks) (frame-ready g out (length marks) (l .sized) (l .well-formed) r (l .limited)) (s .finished) (t .fit));
+        ready = rw (t .frames) (ready-after g copy (length marks) f (s .finished) (t .fit));
       })
 
   -- ---- it does not

@@ -11,8 +11,11 @@ use Rattle.graph.specs.Check.{cleared}
 use Rattle.graph.specs.WellFormed.{WellFormed}
 use Rattle.renumber.specs.Room.{Limited, Room}
 use Rattle.copy.specs.Copying.{copyOf}
+use Rattle.copy.specs.Meaning.{IsCopy}
 use Rattle.frame.specs.Frame.{framed, frameFits}
 use Rattle.frame.specs.Call.{FrameReady}
+use Rattle.frame.specs.Meaning.{FrameAdded}
+use Rattle.unroll.specs.Unroll.{unrollCall}
 use Rattle.unroll_to.specs.Call.{maxFrames, Ran, emptied, unrollToCall}
 
 -- k single frames of b, one after the other, as `unroll` adds each
@@ -27,6 +30,11 @@ pub record Standing (b a : Lent) (n finished : ℕ) (graph : Lent) : Type 0 wher
   pub fit : (k : ℕ) → k < finished → frameFits (afterFrames b k a) b ≡ true
   pub full : finished < n → frameFits (afterFrames b finished a) b ≡ false
 
+-- each finished frame is what a single `unroll` adds, and where one is missing `unroll` has no room for it either, whatever marks cover the target's rows
+pub record SingleFrames (b a : Lent) (n finished : ℕ) : Type 0 where
+  pub adds : (k : ℕ) → k < finished → (marks : List ℕ) → afterFrames b k a .counts .rows ≤ length marks → unrollCall (afterFrames b k a) b marks .graph ≡ afterFrames b (suc k) a
+  pub no-more : finished < n → (marks : List ℕ) → afterFrames b finished a .counts .rows ≤ length marks → unrollCall (afterFrames b finished a) b marks .given ≡ noRoom
+
 -- what is lent to the call is right
 pub record UnrollLent (g out : Lent) (n : ℕ) (marks : List ℕ) : Type 0 where
   pub limited : Limited out
@@ -38,6 +46,10 @@ pub record UnrollLent (g out : Lent) (n : ℕ) (marks : List ℕ) : Type 0 where
 pub record Unrolls (g out : Lent) (n : ℕ) (marks : List ℕ) (r : Ran) : Type 0 where
   -- the copy is unrolled frame by frame
   pub standing : Standing g (copyOf (g .counts) g out) n (r .finished) (r .graph)
+  pub single : SingleFrames g (copyOf (g .counts) g out) n (r .finished)
+  -- which holds what the given graph does, and in every frame each edge has its value and every list its entries
+  pub copy : IsCopy (g .counts) g out (copyOf (g .counts) g out)
+  pub each : (k : ℕ) → k < r .finished → FrameAdded (afterFrames g k (copyOf (g .counts) g out)) g (afterFrames g (suc k) (copyOf (g .counts) g out))
   -- done exactly where all frames are finished
   pub all : r .finished ≡ n → r .given ≡ done
   pub some : r .finished < n → r .given ≡ noRoom

@@ -1,0 +1,5 @@
+pub mod Clauses
+pub mod Fanin
+pub mod Influence
+pub mod Run
+pub mod Step

@@ -1,0 +1,10 @@
+pub mod Again
+pub mod Finding
+pub mod Laying
+pub mod Listing
+pub mod Meaning
+pub mod Nexting
+pub mod Pairing
+pub mod Sharing
+pub mod Tables
+pub mod Working

@@ -1,0 +1,50 @@
+// One record of the latch table: read, its next written, written whole. An index past the table is 4.
+ghost use mathlib.Core.Path.{_≡_};
+ghost use Rattle.records.specs.Entries.{foundSeen, latchCall, tableSeen, nextCall, latchPutCall};
+use edge::Answer;
+use graph::latch::Latch;
+
+// A latch that was read; on a refusal its words are 0.
+pub struct Found {
+    pub answer: Answer,
+    pub latch: Latch,
+}
+
+pub fn latch_at(table: &[Latch], i: usize) -> Found
+    ensures { λ r. ⌜ foundSeen r ≡ latchCall (now (table .entry)) i ⌝ }
+{
+    if i < table.len() {
+        return Found {
+            answer: Answer::Done,
+            latch: table[i],
+        };
+    }
+    Found {
+        answer: Answer::BadArgument,
+        latch: Latch {
+            input: 0,
+            next: 0,
+            init: 0,
+        },
+    }
+}
+
+pub fn set_next(table: &mut [Latch], i: usize, next: u32) -> Answer
+    ensures { λ r. ⌜ tableSeen r (now (table .exit)) ≡ nextCall (now (table .entry)) i next ⌝ }
+{
+    if i < table.len() {
+        table[i].next = next;
+        return Answer::Done;
+    }
+    Answer::BadArgument
+}
+
+pub fn put_latch(table: &mut [Latch], i: usize, latch: Latch) -> Answer
+    ensures { λ r. ⌜ tableSeen r (now (table .exit)) ≡ latchPutCall (now (table .entry)) i latch ⌝ }
+{
+    if i < table.len() {
+        table[i] = latch;
+        return Answer::Done;
+    }
+    Answer::BadArgument
+}
