@@ -1,3 +1,0 @@
-pub mod CApi
-pub mod Words
-pub mod Rebuild

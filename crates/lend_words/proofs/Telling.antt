@@ -1,0 +1,24 @@
+-- Laws of what is told of a call that rebuilds a graph.
+-- Assumes nothing.
+use Prim.Native.Nat.{ℕ}
+use mathlib.Core.Path.{_≡_, ap, _∙_}
+use mathlib.Core.List.{List}
+use Rattle.edge.specs.Answers.{told}
+use Rattle.graph.specs.Graph.{Lent}
+use Rattle.renumber.specs.declared.Rebuilt.{Rebuilt}
+use Rattle.renumber.specs.Seen.{RebuiltSeen, rebuiltSeen, ListedSeen, listedSeen}
+use Rattle.lend_words.specs.Told.{ToldSeen, toldGraph, toldOf, toldListed, toldListedOf, toldRebuilt}
+
+module _ (before : List ℕ) (r : Rebuilt) (g : Lent) (m : List ℕ) {after : List ℕ} (w : after ≡ toldRebuilt before (told (r .answer)) (g .counts)) where
+  seen : toldGraph g m after ≡ toldGraph g m (toldRebuilt before (told (r .answer)) (g .counts))
+  seen = ap (toldGraph g m) w
+
+  pub tells : (promised : RebuiltSeen) → rebuiltSeen r g m ≡ promised → toldGraph g m after ≡ toldOf promised before
+  unfolding toldOf
+  tells promised e = seen ∙ ap (λ (s : RebuiltSeen). toldGraph (s .graph) (s .marks) (toldRebuilt before (s .given) (s .graph .counts))) e
+
+  pub tells-listed : (o : List ℕ) (promised : ListedSeen) → listedSeen r g o m ≡ promised → toldListed (toldGraph g m after) o ≡ toldListedOf promised before
+  unfolding toldListedOf
+  tells-listed o promised e =
+      ap (λ (s : ToldSeen). toldListed s o) seen
+      ∙ ap (λ (s : ListedSeen). toldListed (toldGraph (s .graph) (s .marks) (toldRebuilt before (s .given) (s .graph .counts))) (s .old)) e

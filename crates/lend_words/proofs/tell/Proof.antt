@@ -1,0 +1,44 @@
+-- `lend_words::tell` meets its contract.
+-- Assumes nothing.
+use Rattle.lend_words.specs.Words.{givenWords}
+use borrow.Author.Needs.{needs}
+use Rattle.lend_words.proofs.tell.Statement.{statement}
+use Rattle.lend_words.proofs.tell.Tie as tie
+
+told-requires : tie.Need-told-requires
+told-requires c κs = search needs
+
+cast-put : tie.Need-cast-put
+cast-put c = search needs
+
+put-requires : tie.Need-put-requires
+put-requires c κs = search needs
+
+put-requires-2 : tie.Need-put-requires-2
+put-requires-2 c κs = search needs
+
+put-requires-3 : tie.Need-put-requires-3
+put-requires-3 c κs = search needs
+
+put-requires-4 : tie.Need-put-requires-4
+put-requires-4 c κs = search needs
+
+same-length : tie.Need-same-length
+same-length c = search needs
+
+returns : tie.Need-returns
+unfolding givenWords
+returns c = rw (c .before .before .put4 .ensures, c .before .before .before .before .before .before .put3 .ensures, c .before .before .before .before .before .before .before .before .before .before .put2 .ensures, c .before .before .before .before .before .before .before .before .before .before .before .before .before .before .put .ensures, c .before .before .before .before .before .before .before .before .before .before .before .before .before .before .before .before .before .told .ensures)
+
+pub tell-spec : {M : Type 1} → statement M
+tell-spec =
+    tie.close
+    (tie.spec
+    told-requires
+    cast-put
+    put-requires
+    put-requires-2
+    put-requires-3
+    put-requires-4
+    same-length
+    returns)

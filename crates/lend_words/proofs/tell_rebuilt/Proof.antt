@@ -1,0 +1,22 @@
+-- `lend_words::tell_rebuilt` meets its contract.
+-- Assumes nothing.
+use Rattle.lend_words.specs.Told.{toldRebuilt}
+use borrow.Author.Needs.{needs}
+use Rattle.lend_words.proofs.tell_rebuilt.Statement.{statement}
+use Rattle.lend_words.proofs.tell_rebuilt.Tie as tie
+
+tell-requires : tie.Need-tell-requires
+tell-requires c κs = search needs
+
+tell-counts-requires : tie.Need-tell-counts-requires
+tell-counts-requires c κs = search needs
+
+same-length : tie.Need-same-length
+same-length c = search needs
+
+returns : tie.Need-returns
+unfolding toldRebuilt
+returns c = rw (c .before .before .tell-counts .ensures, c .before .before .before .before .before .before .tell .ensures)
+
+pub tell-rebuilt-spec : {M : Type 1} → statement M
+tell-rebuilt-spec = tie.close (tie.spec tell-requires tell-counts-requires same-length returns)
