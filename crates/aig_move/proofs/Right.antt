@@ -1,7 +1,6 @@
 -- `aig_move` is right.
 -- Assumes nothing.
 use Prim.Native.Nat.{ℕ}
-use native.Mathlib.Omega.{arith}
 use mathlib.Core.Path.{_≡_, refl, ap, _∙_}
 use mathlib.Core.Bool.{Bool, true, false, cond}
 use mathlib.Core.List.{List}
@@ -9,17 +8,19 @@ use lib.ListN.{length}
 use lib.Dec.{eqb}
 use borrow.Author.Tests.{eq-eqb, ne-eqb}
 use Rattle.edge.specs.declared.answer.Given.{Given}
-use Rattle.edge.specs.Answers.{done, noRoom, orElse}
+use Rattle.edge.specs.Answers.{done}
 use Rattle.graph.specs.Graph.{Lent}
+use Rattle.graph.proofs.Exactly.{names-refused, room-answers}
+use Rattle.roots.proofs.Arguments.{args-answers}
 use Rattle.renumber.specs.Writing.{written}
-use Rattle.renumber.specs.Room.{hasRoom}
+use Rattle.renumber.specs.Room.{limits, hasRoom}
 use Rattle.renumber.proofs.Fitting.{limits-true, room-true}
-use Rattle.copy.specs.Copying.{copied, copyOf}
-use Rattle.copy.proofs.Asking.{asked-accepts, asked-cleared, asked-untouched}
+use Rattle.copy.specs.Copying.{copied, copyOf, copyAsked}
+use Rattle.copy.proofs.Asking.{asked-accepts}
 use Rattle.aig_move.specs.Moving.{countsOf, finished, moved}
 use Rattle.aig_move.specs.Call.{moveAsked, moveAnswer, moveCall}
 use Rattle.aig_move.specs.Meaning.{MoveLent, Moved, MoveRight}
-use Rattle.aig_move.proofs.Call.{answer-stops, answer-goes, all-right}
+use Rattle.aig_move.proofs.Call.{answer-goes, all-right}
 use Rattle.aig_move.proofs.Result.{is-moved}
 
 module _ (g out : Lent) (marks : List ℕ) where
@@ -56,19 +57,6 @@ module _ (g out : Lent) (marks : List ℕ) where
       go true = refl
       go false = refl
 
-  -- ---- the marks: only the check of what is lent answers 1
-  by-sizes : answer ≡ 1 → asked .number ≡ 1
-  unfolding moveAnswer orElse
-  by-sizes = go (eqb (asked .number) 0) (hasRoom out (countsOf g))
-    where
-      go : (t r : Bool) → cond t (cond r done noRoom) asked .number ≡ 1 → asked .number ≡ 1
-      go true true z = absurd (omega arith)
-      go true false z = absurd (omega arith)
-      go false r z = z
-
-  sizes-first : asked .number ≡ 1 → answer ≡ 1
-  sizes-first z = ap (λ (t : Given). t .number) (answer-stops g out marks (λ (o : asked .number ≡ 0). absurd (omega arith))) ∙ z
-
   pub aig-move-right : MoveRight g out marks
   aig-move-right =
       record {
@@ -77,6 +65,5 @@ module _ (g out : Lent) (marks : List ℕ) where
         moves = λ z. unfold moveCall in moves z;
         refused = λ h. unfold moveCall in refused h;
         constraints-stay = constraints-stay;
-        untouched = λ z. unfold moveCall in asked-untouched true g out marks (by-sizes z);
-        zeroed = λ h. unfold moveCall in asked-cleared true g out marks (λ z. h (sizes-first z));
+        answers = unfold moveCall moveAnswer copyAsked in room-answers (names-refused g) (hasRoom out (countsOf g)) (args-answers (limits out) true g marks);
       }

@@ -6,21 +6,17 @@ use mathlib.Core.Bool.{Bool, true, _&&_}
 use mathlib.Core.List.{List}
 use lib.ListN.{length, getD, take}
 use Rattle.edge.specs.Edges.{constantOf}
-use Rattle.edge.specs.Meaning.{edgeValue}
 use Rattle.rows.specs.Rows.{leafAt}
 use Rattle.rows.specs.Value.{value}
 use Rattle.graph.specs.Latches.{latchAt}
-use Rattle.graph.specs.Graph.{Lent, Sized}
-use Rattle.graph.specs.Check.{cleared}
+use Rattle.graph.specs.Graph.{Lent, Sized, valueIn}
 use Rattle.graph.specs.WellFormed.{WellFormed}
 use Rattle.gates.specs.Meaning.{allTrue}
-use Rattle.renumber.specs.Room.{Limited, Room}
+use Rattle.graph.specs.Exactly.{Answers}
+use Rattle.renumber.specs.Kept.{SameBefore}
+use Rattle.renumber.specs.Room.{limits, hasRoom, Limited, Room}
 use Rattle.aig_move.specs.Moving.{countsOf}
 use Rattle.aig_move.specs.Call.{moveCall}
-
--- the value of an edge of a graph
-abbrev pub valueIn : Lent → (ℕ → Bool) → ℕ → Bool
-valueIn g leaf = edgeValue (value (g .rows) leaf)
 
 -- all constraints of g hold
 abbrev pub Constraints : Lent → (ℕ → Bool) → Bool
@@ -43,10 +39,6 @@ pub record FirstGuarded (g after : Lent) (n : ℕ) (old new : List ℕ) : Type 0
   pub first : 0 < n → (leaf : ℕ → Bool) → valueIn after leaf (getD new 0 0) ≡ valueIn after leaf (newNext g after) && valueIn g leaf (getD old 0 0)
   pub others : (j : ℕ) → 0 < j → j < n → getD new j 0 ≡ getD old j 0
 
--- the first n entries are as they were
-abbrev pub Same : ℕ → List ℕ → List ℕ → Type 0
-Same n old new = (j : ℕ) → j < n → getD new j 0 ≡ getD old j 0
-
 -- `after` is g with its constraints moved into a latch
 pub record Moved (g after : Lent) : Type 0 where
   pub counts : after .counts ≡ countsOf g
@@ -57,14 +49,14 @@ pub record Moved (g after : Lent) : Type 0 where
   pub bads : FirstGuarded g after (g .counts .bads) (g .bads) (after .bads)
   pub outputs : FirstGuarded g after (g .counts .outputs) (g .outputs) (after .outputs)
   -- every row of g keeps its words, and its value under every choice of leaf values
-  pub rows : Same (2 * g .counts .rows) (g .rows) (after .rows)
+  pub rows : SameBefore (2 * g .counts .rows) (g .rows) (after .rows)
   pub values : (leaf : ℕ → Bool) (i : ℕ) → i < g .counts .rows → value (after .rows) leaf i ≡ value (g .rows) leaf i
   -- and so does every other entry
-  pub inputs : Same (g .counts .inputs) (g .inputs) (after .inputs)
+  pub inputs : SameBefore (g .counts .inputs) (g .inputs) (after .inputs)
   pub latches : (j : ℕ) → j < g .counts .latches → latchAt (after .latches) j ≡ latchAt (g .latches) j
-  pub ends : Same (g .counts .sets) (g .ends) (after .ends)
-  pub edges : Same (g .counts .edges) (g .edges) (after .edges)
-  pub fairness : Same (g .counts .fairness) (g .fairness) (after .fairness)
+  pub ends : SameBefore (g .counts .sets) (g .ends) (after .ends)
+  pub edges : SameBefore (g .counts .edges) (g .edges) (after .edges)
+  pub fairness : SameBefore (g .counts .fairness) (g .fairness) (after .fairness)
   -- the result may be given to any call
   pub sized : (marks : ℕ) → after .counts .rows ≤ marks → Sized after marks
   pub well-formed : WellFormed after
@@ -80,10 +72,9 @@ pub record MoveLent (g out : Lent) (marks : List ℕ) : Type 0 where
 pub record MoveRight (g out : Lent) (marks : List ℕ) : Type 0 where
   pub accepts : MoveLent g out marks → moveCall g out marks .given .number ≡ 0
   pub accepted : moveCall g out marks .given .number ≡ 0 → MoveLent g out marks
+  -- each answer exactly in its case, and the marks
+  pub answers : Answers (limits out) true (hasRoom out (countsOf g)) g marks (moveCall g out marks .given) (moveCall g out marks .marks)
   pub moves : moveCall g out marks .given .number ≡ 0 → Moved g (moveCall g out marks .graph)
   pub refused : (moveCall g out marks .given .number ≡ 0 → ⊥) → moveCall g out marks .graph ≡ out
   -- "none of their words are written": the room's constraints stay
   pub constraints-stay : moveCall g out marks .graph .constraints ≡ out .constraints
-  -- "Work marks are zero at exit over the rows used at entry, except after 1, when they are untouched"
-  pub untouched : moveCall g out marks .given .number ≡ 1 → moveCall g out marks .marks ≡ marks
-  pub zeroed : (moveCall g out marks .given .number ≡ 1 → ⊥) → moveCall g out marks .marks ≡ cleared (g .counts .rows) marks

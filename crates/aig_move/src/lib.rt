@@ -98,7 +98,7 @@ fn finish(
     replace_first(outputs2, counts.outputs, made.output);
 }
 
-// Answers 1 to 5. Where no answer is left, the counts are those of the result.
+// Answers 1, 2, 3 and 5: no argument can be wrong. Where no answer is left, the counts are those of the result.
 fn checked(
     rows: &[u32],
     inputs: &[u32],

@@ -1,6 +1,6 @@
 -- Laws of the calls that add a row, an input or a latch.
 -- Assumes nothing.
-use Prim.Native.Nat.{ℕ, _+_, _*_, _≤_}
+use Prim.Native.Nat.{ℕ, _+_, _≤_}
 use native.Mathlib.Omega.{arith}
 use mathlib.Core.Path.{_≡_, refl}
 use mathlib.Core.Bool.{Bool, true, false, not}
@@ -16,7 +16,7 @@ use Rattle.edge.proofs.Tests.{both}
 use Rattle.rows.specs.Sizes.{maxRows, maxEntries, fits, rowsFit}
 use Rattle.rows.proofs.Laws.{rows-fit}
 use Rattle.graph.specs.declared.Counts.{Counts}
-use Rattle.graph.specs.Latches.{latchWords, latchesLent, latch}
+use Rattle.graph.specs.Latches.{latch}
 use Rattle.graph.specs.Leaves.{latchEdges}
 use Rattle.build.specs.declared.calls.Added.{Added}
 use Rattle.build.specs.Calls.{Left, left, callOf, addedSeen}
@@ -52,12 +52,12 @@ input-fits rows inputs n good row h =
     let l = ltb-true (n .inputs) (length inputs) (both {a = row} {b = ltb (n .inputs) (length inputs)} (t .2) .1) in
     record { rows = limit (n .rows) rows (s .0); entry = omega arith }
 
-pub latch-fits : (rows latches : List ℕ) (n : Counts) (good row : Bool) → eqb (latchAnswer rows latches n good row .number) 0 ≡ true → Fits n (length latches) (latchWords * (n .latches + 1))
+pub latch-fits : (rows : List ℕ) (lent : ℕ) (n : Counts) (good row : Bool) → eqb (latchAnswer rows lent n good row .number) 0 ≡ true → Fits n lent (n .latches + 1)
 unfolding latchAnswer
-latch-fits rows latches n good row h =
+latch-fits rows lent n good row h =
     let t = all-three _ _ _ h in
-    let s = both {a = rowsFit (n .rows) rows} {b = fits (n .latches) (latchesLent latches) maxEntries} (t .0) in
-    let l = ltb-true (n .latches) (latchesLent latches) (both {a = row} {b = ltb (n .latches) (latchesLent latches)} (t .2) .1) in
+    let s = both {a = rowsFit (n .rows) rows} {b = fits (n .latches) lent maxEntries} (t .0) in
+    let l = ltb-true (n .latches) lent (both {a = row} {b = ltb (n .latches) lent} (t .2) .1) in
     record { rows = limit (n .rows) rows (s .0); entry = omega arith }
 
 -- the input of a latch is no edge

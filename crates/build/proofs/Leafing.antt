@@ -82,11 +82,11 @@ module _ (rows : List ℕ) (n : Counts) where
       let t = all-three (rowsFit (n .rows) rows && fits (n .inputs) (length inputs) maxEntries) good (row && ltb (n .inputs) (length inputs)) (eq-eqb _ 0 z) in
       (both {a = rowsFit (n .rows) rows} {b = fits (n .inputs) (length inputs) maxEntries} (t .0) .0, t .1, both {a = row} {b = ltb (n .inputs) (length inputs)} (t .2) .0)
 
-  pub latch-told : (latches : List ℕ) (good row : Bool) → latchAnswer rows latches n good row .number ≡ 0 → (rowsFit (n .rows) rows ≡ true) × (good ≡ true) × (row ≡ true)
+  pub latch-told : (lent : ℕ) (good row : Bool) → latchAnswer rows lent n good row .number ≡ 0 → (rowsFit (n .rows) rows ≡ true) × (good ≡ true) × (row ≡ true)
   unfolding latchAnswer
-  latch-told latches good row z =
-      let t = all-three (rowsFit (n .rows) rows && fits (n .latches) (latchesLent latches) maxEntries) good (row && ltb (n .latches) (latchesLent latches)) (eq-eqb _ 0 z) in
-      (both {a = rowsFit (n .rows) rows} {b = fits (n .latches) (latchesLent latches) maxEntries} (t .0) .0, t .1, both {a = row} {b = ltb (n .latches) (latchesLent latches)} (t .2) .0)
+  latch-told lent good row z =
+      let t = all-three (rowsFit (n .rows) rows && fits (n .latches) lent maxEntries) good (row && ltb (n .latches) lent) (eq-eqb _ 0 z) in
+      (both {a = rowsFit (n .rows) rows} {b = fits (n .latches) lent maxEntries} (t .0) .0, t .1, both {a = row} {b = ltb (n .latches) lent} (t .2) .0)
 
   first : newCall rows .given .number ≡ 0 → AllRows (newCall rows .left .rows) 1
   unfolding newCall callOf
@@ -104,5 +104,5 @@ module _ (rows : List ℕ) (n : Counts) where
         input = λ inputs. went rows inputs n (n .inputs + 1) (n .latches) _ _ (λ z. let t = input-told inputs true (freeRow rows (n .rows)) z in (t .0, t .2));
         latch = λ latches next init.
             went rows latches n (n .inputs) (n .latches + 1) _ _
-            (λ z. let t = latch-told latches (latchEdges (n .rows) (latch (n .rows) next init)) (freeRow rows (n .rows)) z in (t .0, t .2));
+            (λ z. let t = latch-told (latchesLent latches) (latchEdges (n .rows) (latch (n .rows) next init)) (freeRow rows (n .rows)) z in (t .0, t .2));
       }

@@ -17,7 +17,7 @@ use Rattle.rows.specs.Sizes.{maxRows, rowsLent, rowsFit}
 use Rattle.rows.specs.Rows.{none, leafAt, AllRows}
 use Rattle.graph.specs.declared.Counts.{Counts}
 use Rattle.graph.specs.declared.latch.Latch.{Latch}
-use Rattle.graph.specs.Latches.{latchWords, latchAt, latchInputs, latchSet, latch}
+use Rattle.graph.specs.Latches.{latchWords, latchesLent, latchAt, latchInputs, latchSet, latch}
 use Rattle.graph.specs.Leaves.{member, usedEdge, latchEdges}
 use Rattle.graph.specs.Graph.{Lent}
 use Rattle.graph.specs.WellFormed.{UsedLeaf, listed, WellFormed}
@@ -337,23 +337,23 @@ module _ (g : Lent) (long : g .counts .inputs ≤ length (g .inputs)) (w : WellF
   unfolding newLatchCall callOf counted
   new-latch next init z =
       let good = latchEdges (n .rows) (latch (n .rows) next init) in
-      let h = eq-eqb (latchAnswer (g .rows) (g .latches) n good (freeRow (g .rows) (n .rows)) .number) 0 z in
-      let t = latch-told (g .rows) n (g .latches) good (freeRow (g .rows) (n .rows)) z in
+      let h = eq-eqb (latchAnswer (g .rows) (latchesLent (g .latches)) n good (freeRow (g .rows) (n .rows)) .number) 0 z in
+      let t = latch-told (g .rows) n (latchesLent (g .latches)) good (freeRow (g .rows) (n .rows)) z in
       rw h
       (latch-stays (taller-by-leaf (t .0) (t .2)) (leaf-stays (t .0) (t .2)) (n .rows) (new-leaf (t .0) (t .2)) (new-unlisted (t .0) (t .2)) next init
-      (latch-fits (g .rows) (g .latches) n good (freeRow (g .rows) (n .rows)) h .entry) (edges-later (n .rows) (n .rows) next init (t .1)))
+      (omega (arith, latch-fits (g .rows) (latchesLent (g .latches)) n good (freeRow (g .rows) (n .rows)) h .entry)) (edges-later (n .rows) (n .rows) next init (t .1)))
 
   add-latch : (x next init : ℕ) → leafAt (g .rows) x ≡ true → member x (listed g) ≡ false → addLatchCall (g .rows) (g .latches) n x next init .given .number ≡ 0
       → WellFormed (withLatches g (addLatchCall (g .rows) (g .latches) n x next init .left))
   unfolding addLatchCall callOf counted
   add-latch x next init leaf new z =
       let good = ltb x (n .rows) && latchEdges (n .rows) (latch x next init) in
-      let h = eq-eqb (latchAnswer (g .rows) (g .latches) n good true .number) 0 z in
-      let t = latch-told (g .rows) n (g .latches) good true z in
+      let h = eq-eqb (latchAnswer (g .rows) (latchesLent (g .latches)) n good true .number) 0 z in
+      let t = latch-told (g .rows) n (latchesLent (g .latches)) good true z in
       let u = both {a = ltb x (n .rows)} {b = latchEdges (n .rows) (latch x next init)} (t .1) in
       rw h
       (latch-stays g w x (ltb-true x (n .rows) (u .0), leaf) (not-in x (listed g) new) next init
-      (latch-fits (g .rows) (g .latches) n good true h .entry) (u .1))
+      (omega (arith, latch-fits (g .rows) (latchesLent (g .latches)) n good true h .entry)) (u .1))
 
   leaf-call : leafCall (g .rows) n .given .number ≡ 0 → WellFormed (withRows g (leafCall (g .rows) n .left))
   unfolding leafCall callOf

@@ -54,19 +54,20 @@ addInputCall rows inputs n input =
     (left rows (set inputs (n .inputs) input) (counted n (n .rows) (n .inputs + 1) (n .latches)) input)
 
 -- ---- latches
-unfoldable pub latchAnswer : List ℕ → List ℕ → Counts → Bool → Bool → Given
-latchAnswer rows latches n good row =
-    answerOf (rowsFit (n .rows) rows && fits (n .latches) (latchesLent latches) maxEntries) good (row && ltb (n .latches) (latchesLent latches))
+-- with so many latches lent
+unfoldable pub latchAnswer : List ℕ → ℕ → Counts → Bool → Bool → Given
+latchAnswer rows lent n good row =
+    answerOf (rowsFit (n .rows) rows && fits (n .latches) lent maxEntries) good (row && ltb (n .latches) lent)
 
 -- "4 for an edge .. that is not used (the none word as init is no edge)": the new row is not used yet
 unfoldable pub newLatchCall : List ℕ → List ℕ → Counts → ℕ → ℕ → Seen
 newLatchCall rows latches n next init =
-    callOf (latchAnswer rows latches n (latchEdges (n .rows) (latch (n .rows) next init)) (freeRow rows (n .rows))) rows latches n
+    callOf (latchAnswer rows (latchesLent latches) n (latchEdges (n .rows) (latch (n .rows) next init)) (freeRow rows (n .rows))) rows latches n
     (left (leafAdded rows (n .rows)) (latchSet latches (n .latches) (latch (n .rows) next init)) (counted n (n .rows + 1) (n .inputs) (n .latches + 1)) (n .rows))
 
 unfoldable pub addLatchCall : List ℕ → List ℕ → Counts → ℕ → ℕ → ℕ → Seen
 addLatchCall rows latches n input next init =
-    callOf (latchAnswer rows latches n (ltb input (n .rows) && latchEdges (n .rows) (latch input next init)) true) rows latches n
+    callOf (latchAnswer rows (latchesLent latches) n (ltb input (n .rows) && latchEdges (n .rows) (latch input next init)) true) rows latches n
     (left rows (latchSet latches (n .latches) (latch input next init)) (counted n (n .rows) (n .inputs) (n .latches + 1)) input)
 
 -- ---- any two results that a promise allows are equal, call by call

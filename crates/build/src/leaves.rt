@@ -1,10 +1,9 @@
-// The first row, leaves, inputs and latches.
+// The first row, leaves and inputs.
 ghost use mathlib.Core.Path.{_≡_};
 ghost use mathlib.Core.List.{[]};
-ghost use Prim.Native.Nat.{_+_};
 ghost use Rattle.edge.specs.Answers.{told};
 ghost use Rattle.build.specs.Calls.{counted, builtSeen, addedSeen};
-ghost use Rattle.build.specs.Leaves.{newCall, freeRow, leafCall, inputAnswer, newInputCall, addInputCall, latchAnswer, newLatchCall, addLatchCall};
+ghost use Rattle.build.specs.Leaves.{newCall, freeRow, leafCall, inputAnswer, newInputCall, addInputCall};
 use crate::calls::Added;
 use crate::calls::Built;
 use crate::calls::answered;
@@ -14,10 +13,6 @@ use crate::calls::refused;
 use edge::Answer;
 use gates::add_row;
 use graph::Counts;
-use graph::latch::LATCH_WORDS;
-use graph::latch::Latch;
-use graph::latch::write_latch;
-use graph::leaves::latch_edges;
 use graph::no_counts;
 use rows::kinds::FALSE_ROW;
 use rows::kinds::NONE;
@@ -45,7 +40,7 @@ pub fn new(rows: &mut [u32]) -> Built
 }
 
 // What is answered where a leaf was made or listed.
-fn added(
+pub fn added(
     answer: Answer,
     counts: Counts,
     rows: usize,
@@ -63,7 +58,7 @@ fn added(
 }
 
 // Is there a row after the used ones?
-fn free_row(rows: &[u32], used: usize) -> bool
+pub fn free_row(rows: &[u32], used: usize) -> bool
     ensures { λ r. ⌜ r ≡ freeRow (now (rows .entry)) used ⌝ }
 {
     used < rows.len() / 2
@@ -128,68 +123,4 @@ pub fn add_input(rows: &[u32], inputs: &mut [u32], counts: Counts, input: u32) -
     let n = counts.inputs;
     inputs[n] = input;
     added(answer, counts, used, n + 1, counts.latches, input)
-}
-
-// What a latch constructor answers.
-fn latch_answer(rows: &[u32], latches: &[u32], counts: Counts, good: bool, row: bool) -> Answer
-    ensures { λ r. ⌜ told r ≡ latchAnswer (now (rows .entry)) (now (latches .entry)) counts good row ⌝ }
-{
-    let n = counts.latches;
-    let room = latches.len() / LATCH_WORDS;
-    answered(
-        rows_fit(counts.rows, rows) & fits(n, room, MAX_ENTRIES),
-        good,
-        row & (n < room),
-    )
-}
-
-// A new leaf that is a latch's input. Its own row is not used yet, so next and init go to rows before it.
-pub fn new_latch(
-    rows: &mut [u32],
-    latches: &mut [u32],
-    counts: Counts,
-    next: u32,
-    init: u32,
-) -> Added
-    ensures { λ r. ⌜ addedSeen r (now (rows .exit)) (now (latches .exit)) ≡ newLatchCall (now (rows .entry)) (now (latches .entry)) counts next init ⌝ }
-{
-    let used = counts.rows;
-    let edges = Latch {
-        input: 0,
-        next,
-        init,
-    };
-    let good = latch_edges(used, edges);
-    let answer = latch_answer(rows, latches, counts, good, free_row(rows, used));
-    if !edge::is_done(answer) {
-        return not_added(answer, counts);
-    }
-    let n = counts.latches;
-    let input = used as u32;
-    add_row(rows, used, NONE, 0);
-    write_latch(latches, n, Latch { input, next, init });
-    added(answer, counts, used + 1, counts.inputs, n + 1, input)
-}
-
-// A used row, listed as a latch's input. It is not looked at.
-pub fn add_latch(
-    rows: &[u32],
-    latches: &mut [u32],
-    counts: Counts,
-    input: u32,
-    next: u32,
-    init: u32,
-) -> Added
-    ensures { λ r. ⌜ addedSeen r (now (rows .entry)) (now (latches .exit)) ≡ addLatchCall (now (rows .entry)) (now (latches .entry)) counts input next init ⌝ }
-{
-    let used = counts.rows;
-    let l = Latch { input, next, init };
-    let good = ((input as usize) < used) & latch_edges(used, l);
-    let answer = latch_answer(rows, latches, counts, good, true);
-    if !edge::is_done(answer) {
-        return not_added(answer, counts);
-    }
-    let n = counts.latches;
-    write_latch(latches, n, l);
-    added(answer, counts, used, counts.inputs, n + 1, input)
 }

@@ -1,15 +1,16 @@
 // Constructors: rows, inputs and latches are added to a graph that is lent. They look only at counts and edges, and don't scan rows.
 mod calls;
+pub mod latches;
 mod leaves;
 mod nodes;
 
 pub use calls::Added;
 pub use calls::Built;
+pub use latches::add_latch;
+pub use latches::new_latch;
 pub use leaves::add_input;
-pub use leaves::add_latch;
 pub use leaves::new;
 pub use leaves::new_input;
-pub use leaves::new_latch;
 pub use leaves::new_leaf_node;
 pub use nodes::new_and_node;
 pub use nodes::new_ands_node;

@@ -17,6 +17,7 @@ use Rattle.graph.specs.Graph.{Lent, Sized}
 use Rattle.graph.specs.Check.{checkCall}
 use Rattle.graph.specs.WellFormed.{WellFormed}
 use Rattle.graph.proofs.WellFormed.{exact}
+use Rattle.graph.proofs.Exactly.{room-answers, check-answers, names-refused, own-answers}
 use Rattle.roots.specs.Roots.{rootsOf}
 use Rattle.cnf.specs.declared.ClausesAnswer.{ClausesAnswer}
 use Rattle.shapes.specs.Shapes.{words}
@@ -119,4 +120,4 @@ module _ (g : Lent) (shortcuts : Bool) (clauses marks : List ℕ) where
         }
 
   pub cnf-right : CnfRight g shortcuts clauses marks
-  cnf-right = record { accepts = accepts; accepted = accepted; refuses = refuses; refused = refused; translates = translated }
+  cnf-right = record { accepts = accepts; accepted = accepted; answers = unfold cnfCall cnfAnswer in own-answers true g marks (record { given = cnfAnswer g shortcuts (length clauses) marks; marks = checkCall g marks .marks }) (room-answers (names-refused g) (leb (length ws) (length clauses)) (check-answers g marks)); refuses = refuses; refused = refused; translates = translated }

@@ -1,4 +1,4 @@
--- Document 01's marked cases of clauses, and what its "Errors that tempt" name.
+-- Graphs of document 01's clauses: what its "Shut out by name" and its "Errors that tempt" name.
 -- Assumes nothing.
 use Prim.Native.Nat.{ℕ, zero, suc}
 use mathlib.Core.Bool.{Bool, true, false, not}
@@ -6,16 +6,14 @@ use mathlib.Core.Path.{_≡_}
 use mathlib.Core.List.{List, [], _∷_, _++_}
 use lib.ListN.{length, replicate}
 use lib.Dec.{eqb}
-use Rattle.edge.specs.Answers.{done, noRoom}
 use Rattle.rows.specs.Rows.{falseWord, none}
 use Rattle.rows.specs.Value.{value}
 use Rattle.graph.specs.Graph.{Lent, lent}
 use Rattle.roots.specs.Marking.{markEdges}
-use Rattle.shapes.specs.declared.Shape.the-variants.{Plain, Xor, Ite}
-use Rattle.shapes.specs.Shapes.{shapeOf, words}
+use Rattle.shapes.specs.declared.Shape.the-variants.{Plain, Xor}
+use Rattle.shapes.specs.Shapes.{shapeOf}
 use Rattle.cnf.specs.Clauses.{walk, cnfOf}
-use Rattle.cnf.specs.Call.{CnfSeen, cnfCall}
-use Rattle.cnf.specs.Meaning.{meets}
+use Rattle.cnf.specs.Meaning.{meets, Translates}
 
 -- ---- tables: row 0, some leaves and some gates
 abbrev leaves : ℕ → List ℕ
@@ -35,28 +33,16 @@ graphOf rows used inputs outputs =
 abbrev pub X : Lent
 X = graphOf (table 2 (2 ∷ 4 ∷ 3 ∷ 5 ∷ 7 ∷ 9 ∷ [])) 6 (1 ∷ 2 ∷ []) (10 ∷ [])
 
--- what is seen of the call, where the buffer and the marks hold sevens
-abbrev seen : Lent → ℕ → Bool → ℕ → CnfSeen
-seen g used shortcuts room = cnfCall g shortcuts (replicate room 7) (replicate used 7)
+-- the same with (6,8) for the last gate, which is never true
+abbrev pub never : Lent
+never = graphOf (table 2 (2 ∷ 4 ∷ 3 ∷ 5 ∷ 6 ∷ 8 ∷ [])) 6 (1 ∷ 2 ∷ []) (10 ∷ [])
 
-pub record MarkedClauses : Type 0 where
-  -- "M8 X, shortcuts on, whole buffer"
-  pub m8 : seen X 6 true 18
-      ≡ record { given = done; words = 18; clauses = 1 ∷ 1 ∷ 3 ∷ 11 ∷ 2 ∷ 4 ∷ 3 ∷ 11 ∷ 3 ∷ 5 ∷ 3 ∷ 10 ∷ 3 ∷ 4 ∷ 3 ∷ 10 ∷ 2 ∷ 5 ∷ []; marks = replicate 6 0 }
-  -- "M9 X, off"
-  pub m9 : seen X 6 false 32
-      ≡ record {
-        given = done;
-        words = 32;
-        clauses = 1 ∷ 1 ∷ 2 ∷ 11 ∷ 7 ∷ 2 ∷ 11 ∷ 9 ∷ 3 ∷ 10 ∷ 6 ∷ 8 ∷ 2 ∷ 9 ∷ 3 ∷ 2 ∷ 9 ∷ 5 ∷ 3 ∷ 8 ∷ 2 ∷ 4 ∷ 2 ∷ 7 ∷ 2 ∷ 2 ∷ 7 ∷ 4 ∷ 3 ∷ 6 ∷ 3 ∷ 5 ∷ [];
-        marks = replicate 6 0;
-      }
-  -- "A buffer of 31: answer 5, untouched"
-  pub m9-short : seen X 6 false 31 ≡ record { given = noRoom; words = 0; clauses = replicate 31 7; marks = replicate 6 0 }
-  -- "M10 rows 4 = (2,5), 5 = (3,7), 6 = (9,11) over inputs 1 to 3: if 1 then 2 else 3"
-  pub m10 : shapeOf true (table 3 (2 ∷ 5 ∷ 3 ∷ 7 ∷ 9 ∷ 11 ∷ [])) 9 11 ≡ Ite 2 4 6
-  -- "M11 row 0 alone, no roots: 1 1"
-  pub m11 : (shortcuts : Bool) → seen (graphOf (table 0 []) 1 [] []) 1 shortcuts 3 ≡ record { given = done; words = 2; clauses = 1 ∷ 1 ∷ 7 ∷ []; marks = 0 ∷ [] }
+-- what document 01 says is "Shut out by name"
+pub record ShutOut : Type 0 where
+  -- "the one that writes only the unit clause": it does not translate X
+  pub only-unit : Translates X ((1 ∷ []) ∷ []) → ⊥
+  -- "one clause list for all graphs": no list translates both
+  pub one-list : (clauses : List (List ℕ)) → Translates X clauses → Translates never clauses → ⊥
 
 -- x xor false, by row 0: 2 = (2,0), 3 = (3,1), 4 = (5,7); output 8
 abbrev pub overRow0 : Lent

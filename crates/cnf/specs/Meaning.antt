@@ -5,6 +5,7 @@ use mathlib.Core.Path.{_≡_}
 use mathlib.Core.Bool.{Bool, true, false, _&&_, _||_}
 use mathlib.Core.List.{List, [], _∷_}
 use lib.ListN.{length, getD, take, drop}
+use lib.Dec.{leb}
 use Rattle.edge.specs.Answers.{done, noRoom, told}
 use Rattle.edge.specs.Meaning.{edgeValue}
 use Rattle.rows.specs.Rows.{leafAt}
@@ -12,6 +13,7 @@ use Rattle.rows.specs.Value.{value}
 use Rattle.graph.specs.Count.{gatesBelow}
 use Rattle.graph.specs.Graph.{Lent, Sized}
 use Rattle.graph.specs.WellFormed.{WellFormed}
+use Rattle.graph.specs.Exactly.{Answers}
 use Rattle.roots.specs.Roots.{rootsOf}
 use Rattle.cnf.specs.declared.ClausesAnswer.{ClausesAnswer}
 use Rattle.shapes.specs.Shapes.{words}
@@ -60,6 +62,8 @@ pub record CnfLent (g : Lent) (shortcuts : Bool) (clauses marks : List ℕ) : Ty
 pub record CnfRight (g : Lent) (shortcuts : Bool) (clauses marks : List ℕ) : Type 0 where
   pub accepts : CnfLent g shortcuts clauses marks → cnfCall g shortcuts clauses marks .given ≡ done
   pub accepted : cnfCall g shortcuts clauses marks .given .number ≡ 0 → CnfLent g shortcuts clauses marks
+  -- each answer exactly in its case, and the marks
+  pub answers : Answers true true (leb (length (words (cnfOf shortcuts g))) (length clauses)) g marks (cnfCall g shortcuts clauses marks .given) (cnfCall g shortcuts clauses marks .marks)
   pub refuses : Sized g (length marks) → WellFormed g → length clauses < length (words (cnfOf shortcuts g)) → cnfCall g shortcuts clauses marks .given ≡ noRoom
   pub refused : cnfCall g shortcuts clauses marks .given .number ≡ 5 → Sized g (length marks) × WellFormed g × (length clauses < length (words (cnfOf shortcuts g)))
   pub translates : (r : ClausesAnswer) (after marks′ : List ℕ) → cnfSeen r after marks′ ≡ cnfCall g shortcuts clauses marks → told (r .answer) .number ≡ 0 → Translated g clauses (r .words) after

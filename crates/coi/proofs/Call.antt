@@ -19,7 +19,7 @@ use Rattle.graph.specs.Graph.{Lent, Sized}
 use Rattle.graph.specs.Check.{cleared, CheckSeen, checkSeen}
 use Rattle.graph.specs.WellFormed.{WellFormed}
 use Rattle.roots.specs.Arguments.{every}
-use Rattle.roots.proofs.Arguments.{Accepted, args-accepted, args-roomy, args-untouched, args-cleared}
+use Rattle.roots.proofs.Arguments.{Accepted, args-accepted, args-roomy, args-cleared}
 use Rattle.coi.specs.Coi.{steps, searched, usedRow}
 use Rattle.coi.specs.Walk.{LatchesKnown, Ready}
 use Rattle.coi.specs.Call.{coiRoom, coiChecked, coiSeen, coiCall}
@@ -40,11 +40,7 @@ module _ (g : Lent) (ids : List ℕ) (flags stack : ℕ) (marks : List ℕ) wher
   unfolding coiChecked
   coi-roomy = args-roomy room good g marks
 
-  pub marks-untouched : coiChecked g ids flags stack marks .given .number ≡ 1 → coiChecked g ids flags stack marks .marks ≡ marks
-  unfolding coiChecked
-  marks-untouched = args-untouched room good g marks
-
-  pub marks-cleared : (coiChecked g ids flags stack marks .given .number ≡ 1 → ⊥) → coiChecked g ids flags stack marks .marks ≡ cleared (g .counts .rows) marks
+  marks-cleared : (coiChecked g ids flags stack marks .given .number ≡ 1 → ⊥) → coiChecked g ids flags stack marks .marks ≡ cleared (g .counts .rows) marks
   unfolding coiChecked
   marks-cleared = args-cleared room good g marks
 

@@ -20,7 +20,7 @@ use Rattle.graph.specs.WellFormed.{WellFormed}
 use Rattle.graph.proofs.Listed.{all-long, latch-at}
 use Rattle.roots.specs.Arguments.{every}
 use Rattle.roots.specs.Flags.{Flagged, Closed}
-use Rattle.roots.proofs.Arguments.{every-at, at-every, args-accepts}
+use Rattle.roots.proofs.Arguments.{every-at, at-every, args-accepts, args-answers}
 use Rattle.roots.proofs.Flagging.{same-flags, same-value}
 use Rattle.coi.specs.Coi.{latchOf, crossed, stepsAt, steps, coiOf, usedRow}
 use Rattle.coi.specs.Call.{coiRoom, coiChecked, coiCall}
@@ -30,7 +30,7 @@ use Rattle.coi.proofs.Walking.{steps-used}
 use Rattle.coi.proofs.Linking.{Of, latch-of, latch-found}
 use Rattle.coi.proofs.Linking.Of.{no-latch, is-latch}
 use Rattle.coi.proofs.Searching.{On, on-at, Place, place, Searched, search-right}
-use Rattle.coi.proofs.Call.{coi-accepted, own-sizes, ready, marks-untouched, marks-cleared}
+use Rattle.coi.proofs.Call.{coi-accepted, own-sizes, ready}
 
 -- ---- the rows one step from row i
 module _ (rows latches : List ℕ) (at i : ℕ) where
@@ -192,20 +192,20 @@ module _ (g : Lent) (ids flags marks stack : List ℕ) where
   unfolding coiCall
   written z = rw (eq-eqb (coiChecked g ids (length flags) (length stack) marks .given .number) 0 z)
 
-  untouched : coiCall g ids flags marks stack .given .number ≡ 1 → (coiCall g ids flags marks stack .marks ≡ marks) × (coiCall g ids flags marks stack .stack ≡ stack)
+  untouched : coiCall g ids flags marks stack .given .number ≡ 1 → coiCall g ids flags marks stack .stack ≡ stack
   unfolding coiCall
-  untouched z = (marks-untouched g ids (length flags) (length stack) marks z, rw (eq-eqb (coiChecked g ids (length flags) (length stack) marks .given .number) 1 z))
+  untouched z = rw (eq-eqb (coiChecked g ids (length flags) (length stack) marks .given .number) 1 z)
 
-  zeroed : (coiCall g ids flags marks stack .given .number ≡ 1 → ⊥)
-      → (coiCall g ids flags marks stack .marks ≡ cleared (g .counts .rows) marks) × (coiCall g ids flags marks stack .stack ≡ cleared (g .counts .rows) stack)
+  zeroed : (coiCall g ids flags marks stack .given .number ≡ 1 → ⊥) → coiCall g ids flags marks stack .stack ≡ cleared (g .counts .rows) stack
   unfolding coiCall
-  zeroed h = (marks-cleared g ids (length flags) (length stack) marks h, rw (ne-eqb (coiChecked g ids (length flags) (length stack) marks .given .number) 1 h))
+  zeroed h = rw (ne-eqb (coiChecked g ids (length flags) (length stack) marks .given .number) 1 h)
 
   pub coi-right : CoiRight g ids flags marks stack
   coi-right =
       record {
         accepts = accepts;
         accepted = accepted;
+        answers = unfold coiCall coiChecked in args-answers (coiRoom g ids (length flags) (length stack)) (every (usedRow (g .counts .rows)) ids) g marks;
         writes = λ z.
             let t = coi-accepted g ids (length flags) (length stack) marks (checked z) in
             record { cone = coiOf g ids; is-coi = is-coi g (length marks) (t .sized) (t .well-formed) ids (t .all-good); written = written z };

@@ -14,7 +14,10 @@ use Rattle.graph.specs.Graph.{Lent, Sized}
 use Rattle.graph.specs.Check.{cleared}
 use Rattle.graph.specs.WellFormed.{WellFormed}
 use Rattle.roots.specs.Flags.{Flagged, Flags, Closed, AgreeOn}
-use Rattle.coi.specs.Call.{coiCall}
+use Rattle.roots.specs.Arguments.{every}
+use Rattle.graph.specs.Exactly.{Answers}
+use Rattle.coi.specs.Coi.{usedRow}
+use Rattle.coi.specs.Call.{coiRoom, coiCall}
 
 -- the rows of the cone of influence
 pub data Reached (g : Lent) (ids : List ℕ) : ℕ → Type 0 where
@@ -59,9 +62,10 @@ pub record CoiWritten (g : Lent) (ids flags after : List ℕ) : Type 0 where
 pub record CoiRight (g : Lent) (ids flags marks stack : List ℕ) : Type 0 where
   pub accepts : CoiLent g ids flags marks stack → coiCall g ids flags marks stack .given .number ≡ 0
   pub accepted : coiCall g ids flags marks stack .given .number ≡ 0 → CoiLent g ids flags marks stack
+  -- each answer exactly in its case, and the marks
+  pub answers : Answers (coiRoom g ids (length flags) (length stack)) (every (usedRow (g .counts .rows)) ids) true g marks (coiCall g ids flags marks stack .given) (coiCall g ids flags marks stack .marks)
   pub writes : coiCall g ids flags marks stack .given .number ≡ 0 → CoiWritten g ids flags (coiCall g ids flags marks stack .flags)
   pub one : (a b : List ℕ) → IsCoi g ids a → IsCoi g ids b → a ≡ b
-  -- "Work marks are zero at exit over the rows used at entry, except after 1, when they are untouched": both slices
-  pub untouched : coiCall g ids flags marks stack .given .number ≡ 1 → (coiCall g ids flags marks stack .marks ≡ marks) × (coiCall g ids flags marks stack .stack ≡ stack)
-  pub zeroed : (coiCall g ids flags marks stack .given .number ≡ 1 → ⊥)
-      → (coiCall g ids flags marks stack .marks ≡ cleared (g .counts .rows) marks) × (coiCall g ids flags marks stack .stack ≡ cleared (g .counts .rows) stack)
+  -- the stack is under the rules of the marks
+  pub untouched : coiCall g ids flags marks stack .given .number ≡ 1 → coiCall g ids flags marks stack .stack ≡ stack
+  pub zeroed : (coiCall g ids flags marks stack .given .number ≡ 1 → ⊥) → coiCall g ids flags marks stack .stack ≡ cleared (g .counts .rows) stack

@@ -27,7 +27,7 @@ use Rattle.roots.proofs.Marking.{EdgeAt, edges-long, edges-bits, edges-flagged,
 use Rattle.cone.specs.Cone.{markRow, markBelow, coneOf}
 use Rattle.cone.specs.Call.{coneRoom, coneChecked, coneCall}
 use Rattle.cone.specs.Meaning.{Below, IsCone, ConeLent, ConeRight}
-use Rattle.roots.proofs.Arguments.{every-at, at-every, args-accepts}
+use Rattle.roots.proofs.Arguments.{every-at, at-every, args-accepts, args-answers}
 use Rattle.cone.proofs.Call.{cone-accepted, own-sizes}
 
 module _ (rows : List ℕ) where
@@ -230,10 +230,12 @@ module _ (g : Lent) (roots flags marks : List ℕ) where
   written z = rw (eq-eqb (coneChecked g roots (length flags) marks .given .number) 0 z)
 
   pub cone-right : ConeRight g roots flags marks
+  unfolding coneCall coneChecked
   cone-right =
       record {
         accepts = accepts;
         accepted = accepted;
+        answers = args-answers (coneRoom g roots (length flags)) (every (usedEdge (g .counts .rows)) roots) g marks;
         writes = λ z. record {
           cone = coneOf (g .rows) (g .counts .rows) roots;
           is-cone = is-cone (g .rows) (g .counts .rows) roots (cone-accepted g roots (length flags) marks (checked z) .all-good);

@@ -2,17 +2,20 @@
 -- Assumes nothing.
 use Prim.Native.Nat.{ℕ, _≤_, _<_}
 use mathlib.Core.Path.{_≡_}
-use mathlib.Core.Bool.{Bool}
+use mathlib.Core.Bool.{Bool, true}
 use mathlib.Core.List.{List, _++_}
 use lib.ListN.{length, getD, drop}
 use Rattle.edge.specs.Edges.{idOf}
 use Rattle.edge.specs.Meaning.{edgeValue}
 use Rattle.rows.specs.Sizes.{maxEntries}
 use Rattle.rows.specs.Value.{value, InCone}
+use Rattle.graph.specs.Leaves.{usedEdge}
 use Rattle.graph.specs.Graph.{Lent, Sized}
 use Rattle.graph.specs.WellFormed.{WellFormed}
 use Rattle.roots.specs.Flags.{Flagged, Flags, Closed, AgreeOn}
-use Rattle.cone.specs.Call.{coneCall}
+use Rattle.roots.specs.Arguments.{every}
+use Rattle.graph.specs.Exactly.{Answers}
+use Rattle.cone.specs.Call.{coneRoom, coneCall}
 
 -- row j is the row of a root, or a fanin below it
 pub record Below (rows roots : List ℕ) (j : ℕ) : Type 0 where
@@ -48,5 +51,7 @@ pub record ConeWritten (g : Lent) (roots flags after : List ℕ) : Type 0 where
 pub record ConeRight (g : Lent) (roots flags marks : List ℕ) : Type 0 where
   pub accepts : ConeLent g roots flags marks → coneCall g roots flags marks .given .number ≡ 0
   pub accepted : coneCall g roots flags marks .given .number ≡ 0 → ConeLent g roots flags marks
+  -- each answer exactly in its case, and the marks
+  pub answers : Answers (coneRoom g roots (length flags)) (every (usedEdge (g .counts .rows)) roots) true g marks (coneCall g roots flags marks .given) (coneCall g roots flags marks .marks)
   pub writes : coneCall g roots flags marks .given .number ≡ 0 → ConeWritten g roots flags (coneCall g roots flags marks .flags)
   pub one : (a b : List ℕ) → IsCone (g .rows) (g .counts .rows) roots a → IsCone (g .rows) (g .counts .rows) roots b → a ≡ b

@@ -12,7 +12,7 @@ use Rattle.edge.specs.declared.answer.Answer.the-variants.{BadSizes, BadArgumen
 use Rattle.edge.specs.Answers.{done, told}
 use Rattle.graph.specs.Graph.{Lent}
 use Rattle.graph.specs.Check.{cleared, checkSeen, checkCall}
-use Rattle.roots.proofs.Arguments.{Accepted, args-room, args-bad, args-told, args-accepted, args-accepts, args-cleared, args-untouched}
+use Rattle.roots.proofs.Arguments.{Accepted, args-room, args-bad, args-told, args-accepted, args-accepts, args-cleared}
 use Rattle.renumber.specs.Room.{limits}
 use Rattle.copy.specs.Copying.{copyAsked}
 
@@ -48,7 +48,3 @@ module _ (good : Bool) (g out : Lent) (marks : List ℕ) where
   pub asked-cleared : (copyAsked good g out marks .given .number ≡ 1 → ⊥) → copyAsked good g out marks .marks ≡ cleared (g .counts .rows) marks
   unfolding copyAsked
   asked-cleared = args-cleared (limits out) good g marks
-
-  pub asked-untouched : copyAsked good g out marks .given .number ≡ 1 → copyAsked good g out marks .marks ≡ marks
-  unfolding copyAsked
-  asked-untouched = args-untouched (limits out) good g marks

@@ -9,7 +9,7 @@ use mathlib.Core.List.{List, [], _∷_}
 use lib.ListN.{length, getD, drop, length-map, drop-of-length-le}
 use lib.Seq.{drop-cons}
 use Rattle.edge.specs.Edges.{complement, complementIf}
-use Rattle.gates.specs.Gates.{State, state, addGate, addAnd, addStep, step, steps}
+use Rattle.gates.specs.Gates.{State, state, addAnd, addStep, step, steps}
 use Rattle.gates.specs.Lists.{allOf, signed, turned, listOf, eqOf}
 use Rattle.gates.proofs.Building.{Like, Sized, and-sized, and-like, step-sized, steps-sized, steps-like}
 
@@ -108,14 +108,6 @@ eq-like v w used a b =
 pub pair-step : (trivial : Bool) (rows : List ℕ) (used a b : ℕ) → listOf trivial false rows used (a ∷ (b ∷ [])) ≡ addStep trivial rows used a b
 unfolding listOf allOf steps
 pair-step trivial rows used a b = refl
-
-pub pair-and : (rows : List ℕ) (used a b : ℕ) → listOf false false rows used (a ∷ (b ∷ [])) ≡ addAnd rows used a b
-unfolding addStep
-pair-and rows used a b = pair-step false rows used a b
-
-pub pair-gate : (rows : List ℕ) (used a b : ℕ) → listOf true false rows used (a ∷ (b ∷ [])) ≡ addGate rows used a b
-unfolding addStep
-pair-gate rows used a b = pair-step true rows used a b
 
 pub pair-or : (rows : List ℕ) (used a b : ℕ) → listOf false true rows used (a ∷ (b ∷ [])) ≡ turned true (addAnd rows used (complement a) (complement b))
 unfolding listOf allOf steps addStep

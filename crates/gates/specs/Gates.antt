@@ -11,7 +11,7 @@ use Rattle.gates.specs.declared.Grown.{Grown}
 use Rattle.gates.specs.declared.Fold.{Fold}
 use Rattle.gates.specs.declared.Fold.the-variants.{To, Gate}
 
--- A step may start at this many used rows: all codes are words still. A call starts at 1,048,576 at most, and takes no more than 65,536 steps.
+-- A step may start at this many used rows: all codes are words still. A call starts at 1,048,576 at most and takes no more steps than that: a frame takes one for each row of a graph.
 abbrev pub stepLimit : ℕ
 stepLimit = 2097152
 

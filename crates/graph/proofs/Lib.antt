@@ -7,3 +7,4 @@ pub mod Listed
 pub mod WellFormed
 pub mod Pairing
 pub mod Counting
+pub mod Exactly

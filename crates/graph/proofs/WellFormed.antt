@@ -206,7 +206,7 @@ module _ (g : Lent) where
   Rows = AllRows (g .rows) (g .counts .rows)
 
   -- the first fault is a row, or all rows are good and it is an entry
-  row-or-entry : {p : Given} → Names (stages g) p → ((p .number ≡ 2) × (Rows → ⊥)) ⊎ ((p .number ≡ 3) × Rows)
+  pub row-or-entry : {p : Given} → Names (stages g) p → ((p .number ≡ 2) × (Rows → ⊥)) ⊎ ((p .number ≡ 3) × Rows)
   row-or-entry (here i l b before) = inl (refl, λ all. false-true (sym b ∙ all i l))
   row-or-entry (later rows names) =
       inr (named-entry (also (λ i. refl) (also (λ i. refl) (also (λ i. refl) (also (λ i. refl) (also (λ i. refl) (also (λ i. refl) (also (λ i. refl) (also (λ i. refl) (also (λ i. refl) ends))))))))) names, rows)

@@ -5,6 +5,8 @@ use mathlib.Core.List.{List}
 use mathlib.Core.Bool.{Bool, _&&_}
 use lib.ListN.{length}
 use lib.Dec.{leb}
+use Rattle.edge.specs.Meaning.{edgeValue}
+use Rattle.rows.specs.Value.{value}
 use Rattle.rows.specs.Sizes.{maxEntries, fits, Fit, rowsFit, RowsFit}
 use Rattle.graph.specs.declared.Counts.{Counts}
 use Rattle.graph.specs.Latches.{latchesLent}
@@ -56,3 +58,8 @@ pub record Sized (g : Lent) (marks : ℕ) : Type 0 where
   pub ends : Fit (g .counts .sets) (length (g .ends)) maxEntries
   pub edges : Fit (g .counts .edges) (length (g .edges)) maxEntries
   pub fairness : Fit (g .counts .fairness) (length (g .fairness)) maxEntries
+
+-- ---- what an edge means
+-- the value of an edge of g, where `leaf` chooses the leaves' values
+abbrev pub valueIn : Lent → (ℕ → Bool) → ℕ → Bool
+valueIn g leaf e = edgeValue (value (g .rows) leaf) e

@@ -8,3 +8,4 @@ pub mod Graph
 pub mod Check
 pub mod WellFormed
 pub mod Pair
+pub mod Exactly

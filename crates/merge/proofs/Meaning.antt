@@ -6,8 +6,10 @@ use lib.ListN.{length}
 use borrow.Author.Tests.{eq-eqb, ne-eqb}
 use Rattle.edge.specs.declared.answer.Given.{Given}
 use Rattle.graph.specs.Graph.{Lent}
+use Rattle.graph.proofs.Exactly.{room-answers, two-refused, check-two-answers}
+use Rattle.renumber.specs.Room.{hasRoom}
 use Prim.Native.Nat.{ℕ}
-use Rattle.merge.specs.Merge.{offset, merged, MergeLent}
+use Rattle.merge.specs.Merge.{offset, summed, merged, MergeLent}
 use Rattle.merge.specs.Call.{mergeChecked, mergeCall}
 use Rattle.merge.specs.Meaning.{Whole, MergeRight}
 use Rattle.merge.proofs.Call.{merge-accepted, merge-accepts}
@@ -53,6 +55,7 @@ module _ (a b : Lent) (marks : List ℕ) where
       record {
         accepts = λ l. ap (λ (g : Given). g .number) (number ∙ merge-accepts a b marks l);
         accepted = λ z. merge-accepted a b marks (checked z);
+        answers = unfold mergeCall mergeChecked in room-answers (two-refused a b) (hasRoom a (summed (a .counts) (b .counts))) (check-two-answers a b marks);
         whole = λ z. rw (graph-done (checked z)) (whole a b (length marks) (merge-accepted a b marks (checked z)));
         refused = λ n. graph-kept (λ z. n (ap (λ (g : Given). g .number) number ∙ z));
       }

@@ -2,12 +2,14 @@
 -- Assumes nothing.
 use Prim.Native.Nat.{ℕ, _+_, _*_, _≤_, _<_}
 use mathlib.Core.Path.{_≡_}
-use mathlib.Core.Bool.{Bool}
+use mathlib.Core.Bool.{Bool, true}
 use mathlib.Core.List.{List}
 use lib.ListN.{length, getD}
 use Rattle.rows.specs.Value.{value}
 use Rattle.graph.specs.Graph.{Lent, Sized}
 use Rattle.graph.specs.WellFormed.{WellFormed}
+use Rattle.graph.specs.Exactly.{AnswersTwo}
+use Rattle.renumber.specs.Room.{hasRoom}
 use Rattle.renumber.specs.Renumber.{listsOf}
 use Rattle.renumber.specs.Entries.{Renumbered}
 use Rattle.renumber.specs.Kept.{SameBefore, ListsKept}
@@ -43,5 +45,7 @@ pub record Whole (a b g : Lent) : Type 0 where
 pub record MergeRight (a b : Lent) (marks : List ℕ) : Type 0 where
   pub accepts : MergeLent a b (length marks) → mergeCall a b marks .given .number ≡ 0
   pub accepted : mergeCall a b marks .given .number ≡ 0 → MergeLent a b (length marks)
+  -- each answer exactly in its case, and the marks
+  pub answers : AnswersTwo true (hasRoom a (summed (a .counts) (b .counts))) a b marks (mergeCall a b marks .given) (mergeCall a b marks .marks)
   pub whole : mergeCall a b marks .given .number ≡ 0 → Whole a b (mergeCall a b marks .graph)
   pub refused : (mergeCall a b marks .given .number ≡ 0 → ⊥) → mergeCall a b marks .graph ≡ a

@@ -16,7 +16,9 @@ use Rattle.edge.proofs.Answers.{stops-here, goes-past, none-of-two, test-done, 
 use Rattle.graph.specs.Graph.{Lent, Sized}
 use Rattle.graph.specs.Check.{CheckSeen, checkSeen, checkCall}
 use Rattle.graph.specs.WellFormed.{WellFormed}
+use Rattle.graph.specs.Exactly.{Answers}
 use Rattle.graph.proofs.WellFormed.{exact}
+use Rattle.graph.proofs.Exactly.{room-answers, check-answers, names-refused, own-answers}
 use Rattle.property.specs.Checking.{changeChecked}
 
 -- what is known where nothing is refused
@@ -29,6 +31,12 @@ pub record Accepted (limits room : Bool) (g : Lent) (marks : ℕ) : Type 0 where
 module _ (limits room : Bool) (g : Lent) (marks : List ℕ) where
   abbrev last : Given
   last = cond room done noRoom
+
+  -- each answer exactly in its case, and the marks
+  pub change-answers : Answers limits true room g marks (changeChecked limits room g marks .given) (changeChecked limits room g marks .marks)
+  unfolding changeChecked
+  change-answers =
+      own-answers limits g marks (record { given = orElse (checkCall g marks .given) last; marks = checkCall g marks .marks }) (room-answers (names-refused g) room (check-answers g marks))
 
   pub change-accepted : changeChecked limits room g marks .given .number ≡ 0 → Accepted limits room g (length marks)
   unfolding changeChecked

@@ -19,7 +19,7 @@ use Rattle.graph.specs.Count.{countBelow}
 use Rattle.graph.proofs.Counting.{count-past, count-none, Counted, counted as counted-at}
 use Rattle.property.specs.GateInit.{Part, partOf, withPart, gatedAll, gatedPart, noneGated, gateInit, gateRoom, gateInitChecked, gateInitCall}
 use Rattle.property.specs.Meaning.{gatedAt, GateRoom, GateInitLent, placeOf, GateInitRight}
-use Rattle.property.proofs.Answering.{change-accepts}
+use Rattle.property.proofs.Answering.{change-answers, change-accepts}
 use Rattle.property.proofs.Constraining.{room-right, gate-init-accepted}
 use Rattle.property.proofs.Making.{counted-made}
 use Rattle.property.proofs.Starting.{constrained}
@@ -96,6 +96,7 @@ module _ (g : Lent) (marks : List ℕ) where
       record {
         accepts = accepts;
         accepted = accepted;
+        answers = unfold gateInitCall gateInitChecked in change-answers true (gateRoom (partOf g)) g marks;
         nothing = λ h. nothing (none-gated g h);
         constrains = λ z i l e.
             let a = accepted z in

@@ -27,7 +27,7 @@ use Rattle.copy.specs.Meaning.{Front}
 use Rattle.copy.proofs.Copying.{front}
 use Rattle.property.specs.Compress.{badsOf, orOf, oneBad, compressed, handedBack, compressRoom, compressChecked, compressCall}
 use Rattle.property.specs.Meaning.{CompressLent, OneBad, CompressRight}
-use Rattle.property.proofs.Answering.{Accepted, change-accepts}
+use Rattle.property.proofs.Answering.{Accepted, change-answers, change-accepts}
 use Rattle.property.proofs.Compressing.{lent-right, compress-accepted}
 
 -- ---- what is lent, as tests
@@ -142,6 +142,7 @@ module _ (g : Lent) (old marks : List ℕ) where
       record {
         accepts = λ l. change-accepts (leb (length old) maxEntries) (compressRoom g old) g marks (right-lent g old (length marks) l);
         accepted = λ z. accepted z;
+        answers = change-answers (leb (length old) maxEntries) (compressRoom g old) g marks;
         compresses = λ z. rw (eq-eqb (compressChecked g old marks .given .number) 0 z) (one-bad g old (length marks) (accepted z));
         hands-back = λ z. rw (eq-eqb (compressChecked g old marks .given .number) 0 z) (handed-back g old (length marks) (accepted z));
         refused = λ n. (rw (ne-eqb (compressChecked g old marks .given .number) 0 n), rw (ne-eqb (compressChecked g old marks .given .number) 0 n));

@@ -19,7 +19,7 @@ use Rattle.graph.specs.declared.Counts.{Counts}
 use Rattle.graph.specs.declared.latch.Latch.{Latch}
 use Rattle.graph.specs.Latches.{latchWords, latchAt, latchInputs, latchSet, latch}
 use Rattle.graph.specs.Leaves.{latchEdges}
-use Rattle.graph.specs.Graph.{Lent, lent, Sized}
+use Rattle.graph.specs.Graph.{valueIn, Lent, lent, Sized}
 use Rattle.graph.specs.WellFormed.{listed, WellFormed}
 use Rattle.build.specs.Calls.{counted}
 use Rattle.gates.specs.Gates.{state, leafAdded}
@@ -35,7 +35,7 @@ use Rattle.graph.proofs.Counting.{count-past, Counted, counted as counted-at}
 use Rattle.renumber.proofs.Writing.{latch-set-length}
 use Rattle.renumber.proofs.Entering.{latch-kept, latch-set-at}
 use Rattle.property.specs.GateInit.{Gating, gating, gateSteps, initless, initsTaken, partOf, withPart, gatedAll, gatedCounts, newLatch, gatedPart}
-use Rattle.property.specs.Meaning.{valueIn, gatedAt, GateRoom, placeOf, StartsAt, equal, Constrained}
+use Rattle.property.specs.Meaning.{gatedAt, GateRoom, placeOf, StartsAt, equal, Constrained}
 use Rattle.property.proofs.Making.{Within, Made, made}
 use Rattle.property.proofs.Initless.{inits-length, inits-at, initless-input, initless-next, initless-gated, initless-left, initless-init, inputs-same, gated-edge}
 

@@ -6,25 +6,22 @@ use mathlib.Core.Bool.{Bool, true, false, cond, not, _||_}
 use mathlib.Core.Logic.{_↔_}
 use mathlib.Core.List.{List}
 use lib.ListN.{length, getD}
+use lib.Dec.{leb}
 use Rattle.edge.specs.Answers.{done}
 use Rattle.edge.specs.Edges.{constantOf}
-use Rattle.edge.specs.Meaning.{edgeValue}
 use Rattle.rows.specs.Sizes.{maxEntries, rowsLent}
 use Rattle.rows.specs.Rows.{none}
 use Rattle.rows.specs.Value.{value}
 use Rattle.graph.specs.Latches.{latchesLent, latchAt}
-use Rattle.graph.specs.Graph.{Lent, lent, Sized}
+use Rattle.graph.specs.Graph.{Lent, lent, Sized, valueIn}
 use Rattle.graph.specs.WellFormed.{UsedLeaf, WellFormed}
 use Rattle.gates.specs.Meaning.{anyTrue}
 use Rattle.graph.specs.Count.{countBelow}
+use Rattle.graph.specs.Exactly.{Answers}
 use Rattle.renumber.specs.Kept.{SameBefore}
 use Rattle.copy.specs.Meaning.{Front}
-use Rattle.property.specs.Compress.{badsOf, orOf, oneBad, compressCall}
-use Rattle.property.specs.GateInit.{isGated, partOf, gatedAll, gatedCounts, newLatch, gateInitCall}
-
--- the value of an edge of g, where `leaf` chooses the leaves' values
-abbrev pub valueIn : Lent → (ℕ → Bool) → ℕ → Bool
-valueIn g leaf e = edgeValue (value (g .rows) leaf) e
+use Rattle.property.specs.Compress.{badsOf, orOf, oneBad, compressRoom, compressCall}
+use Rattle.property.specs.GateInit.{isGated, partOf, gatedAll, gatedCounts, newLatch, gateRoom, gateInitCall}
 
 -- the used rows of g stand in `after` with their words, and so with their values
 pub record RowsKept (g after : Lent) : Type 0 where
@@ -60,6 +57,8 @@ pub record OneBad (g after : Lent) : Type 0 where
 pub record CompressRight (g : Lent) (old marks : List ℕ) : Type 0 where
   pub accepts : CompressLent g old (length marks) → compressCall g old marks .given ≡ done
   pub accepted : compressCall g old marks .given .number ≡ 0 → CompressLent g old (length marks)
+  -- each answer exactly in its case, and the marks
+  pub answers : Answers (leb (length old) maxEntries) true (compressRoom g old) g marks (compressCall g old marks .given) (compressCall g old marks .marks)
   pub compresses : compressCall g old marks .given .number ≡ 0 → OneBad g (compressCall g old marks .graph)
   -- "hands back the old list", at the front of the list lent for it
   pub hands-back : compressCall g old marks .given .number ≡ 0 → Front (g .counts .bads) (g .bads) old (compressCall g old marks .old)
@@ -131,6 +130,8 @@ pub record Constrained (g after : Lent) : Type 0 where
 pub record GateInitRight (g : Lent) (marks : List ℕ) : Type 0 where
   pub accepts : GateInitLent g (length marks) → gateInitCall g marks .given ≡ done
   pub accepted : gateInitCall g marks .given .number ≡ 0 → GateInitLent g (length marks)
+  -- each answer exactly in its case, and the marks
+  pub answers : Answers true true (gateRoom (partOf g)) g marks (gateInitCall g marks .given) (gateInitCall g marks .marks)
   pub nothing : ((i : ℕ) → i < g .counts .latches → gatedAt g i ≡ false) → gateInitCall g marks .graph ≡ g
   pub constrains : gateInitCall g marks .given .number ≡ 0 → (i : ℕ) → i < g .counts .latches → gatedAt g i ≡ true → Constrained g (gateInitCall g marks .graph)
   pub refused : (gateInitCall g marks .given .number ≡ 0 → ⊥) → gateInitCall g marks .graph ≡ g

@@ -1,14 +1,14 @@
 -- Unrolling for callers whose latches are records.
 -- Assumes nothing.
 use Prim.Native.Nat.{ℕ}
-use mathlib.Core.Path.{_≡_, ap}
+use mathlib.Core.Path.{_≡_, refl}
 use mathlib.Core.List.{List}
-use Rattle.edge.specs.Answers.{badSizes, told-injective}
+use Rattle.edge.specs.Answers.{badSizes}
 use Rattle.graph.specs.declared.Counts.{Counts}
 use Rattle.graph.specs.declared.latch.Latch.{Latch}
 use Rattle.graph.specs.Graph.{Lent, lent}
 use Rattle.renumber.specs.declared.Rebuilt.{Rebuilt}
-use Rattle.renumber.specs.Seen.{RebuiltSeen, rebuiltSeen}
+use Rattle.renumber.specs.Seen.{RebuiltSeen, rebuiltSeen, SameRebuilt, rebuilt-determined}
 use Rattle.unroll.specs.Unroll.{unrollCall}
 use Rattle.records.specs.Pairing.{pairSeen, onBothRecords, pair-determined}
 
@@ -24,12 +24,7 @@ unrollRefused rows inputs constraints bads outputs ends edges fairness counts ma
 -- any two results that the promise allows are equal: the answer, every word and record with the counts, the marks and the work words
 pub unroll-determined : (t : List Latch) (words : List ℕ) (t2 : List Latch) (words2 : List ℕ) (call : List ℕ → List ℕ → RebuiltSeen) (refused : List ℕ → RebuiltSeen) (r s : Rebuilt) (g h : Lent) (m n v w x y : List ℕ)
     → pairSeen (rebuiltSeen r g m) v x ≡ onBothRecords t words t2 words2 call refused → pairSeen (rebuiltSeen s h n) w y ≡ onBothRecords t words t2 words2 call refused
-    → (r .answer ≡ s .answer) × (g ≡ h) × (m ≡ n) × (v ≡ w) × (x ≡ y)
+    → SameRebuilt r g m s h n × (v ≡ w) × (x ≡ y)
 unroll-determined t words t2 words2 call refused r s g h m n v w x y p q =
-    let e = pair-determined t words t2 words2 call refused (rebuiltSeen r g m) (rebuiltSeen s h n) v w x y p q in (
-      told-injective (r .answer) (s .answer) (ap (λ (z : RebuiltSeen). z .given) (e .0)),
-      ap (λ (z : RebuiltSeen). z .graph) (e .0),
-      ap (λ (z : RebuiltSeen). z .marks) (e .0),
-      e .1,
-      e .2,
-    )
+    let e = pair-determined t words t2 words2 call refused (rebuiltSeen r g m) (rebuiltSeen s h n) v w x y p q in
+    (rebuilt-determined (λ (z : RebuiltSeen). z) (rebuiltSeen s h n) r s g h m n (e .0) refl, e .1, e .2)

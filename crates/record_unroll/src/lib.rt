@@ -9,7 +9,7 @@ use edge::Answer;
 use graph::Counts;
 use graph::latch::LATCH_WORDS;
 use graph::latch::Latch;
-use records::records_back;
+use records::nexts_back;
 use records::to_words;
 use records::wipe;
 use renumber::Rebuilt;
@@ -84,7 +84,7 @@ fn unroll_words(
     )
 }
 
-// Adds a frame of the second graph to the first: the latches of both are records.
+// Adds a frame of the second graph to the first: the latches of both are records, and of the first's the nexts are written.
 pub fn unroll(
     rows: &mut [u32],
     inputs: &mut [u32],
@@ -146,7 +146,7 @@ pub fn unroll(
         words2,
         marks,
     );
-    records_back(latches, words);
+    nexts_back(latches, words);
     wipe(words, n);
     wipe(words2, n2);
     r

@@ -2,9 +2,11 @@ pub mod Again
 pub mod Finding
 pub mod Laying
 pub mod Listing
+pub mod Locals
 pub mod Meaning
 pub mod Nexting
 pub mod Pairing
+pub mod Putting
 pub mod Sharing
 pub mod Tables
 pub mod Working

@@ -2,7 +2,7 @@
 -- Assumes nothing.
 use Prim.Native.Nat.{ℕ, _+_, _*_, _≤_, _<_, _/_}
 use native.Mathlib.Omega.{arith}
-use mathlib.Core.Path.{_≡_, refl, sym, ap, _∙_}
+use mathlib.Core.Path.{_≡_, refl, sym, ap, subst, _∙_}
 use mathlib.Core.Bool.{Bool, true, false, cond, _&&_}
 use mathlib.Core.List.{List, _++_}
 use lib.ListN.{length, replicate, length-append, length-drop, take-append-drop}
@@ -12,9 +12,10 @@ use borrow.Author.Tests.{leb-true, le-leb, lt-leb}
 use Rattle.graph.specs.declared.latch.Latch.{Latch}
 use Rattle.graph.specs.Latches.{latchWords, latchesLent}
 use Rattle.graph.specs.Check.{cleared}
-use Rattle.records.specs.Table.{wordsOf, roomFor, laidOut, wiped}
+use Rattle.records.specs.Table.{wordsOf, roomFor, laidOut, wiped, takeNext, takeAll, nextsBack, recordsBack}
 use Rattle.records.specs.Pairing.{front, behind, Fronted, fronted, onBoth, pairSeen, onBothRecords}
 use Rattle.records.proofs.Laying.{words-length}
+use Rattle.records.proofs.Meaning.{all-back, back-stays, NextsAlone, nexts-all}
 
 -- ---- the records' words in the work words
 module _ (t : List Latch) (words : List ℕ) where
@@ -93,11 +94,9 @@ module _ {S : Type 0} (call : List ℕ → List ℕ → S) (refused : List ℕ �
 module _ {S : Type 0} (call : List ℕ → List ℕ → S) (refused seen : List ℕ → S) (get : S → List ℕ) (put : S → List ℕ → S)
     (get-seen : (l : List ℕ) → get (seen l) ≡ l) (get-refused : (l : List ℕ) → get (refused l) ≡ l)
     (put-seen : (l m : List ℕ) → put (seen l) m ≡ seen m) (put-refused : (l m : List ℕ) → put (refused l) m ≡ refused m) where
-  module _ (t : List Latch) (words : List ℕ) (t2 : List Latch) (words2 : List ℕ) (after : List ℕ) (t′ : List Latch)
+  module _ (t : List Latch) (words : List ℕ) (t2 : List Latch) (words2 : List ℕ) (after : List ℕ)
       (called : fronted (seen (front (length t) after)) (behind (length t) after) ≡ onBoth (length t) (laidOut t words) (length t2) (laidOut t2 words2) call refused)
-      (long : length after ≡ length words)
-      (backs : roomFor t after ≡ true → wordsOf t′ ≡ front (length t) after)
-      (stays : roomFor t after ≡ false → t′ ≡ t) where
+      (long : length after ≡ length words) where
     abbrev Test : Bool → Bool → S
     Test a b = cond (a && b) (call (front (length t) (laidOut t words)) (front (length t2) (laidOut t2 words2))) (refused (front (length t) (laidOut t words)))
 
@@ -112,30 +111,17 @@ module _ {S : Type 0} (call : List ℕ → List ℕ → S) (refused seen : List 
     room-after : roomFor t after ≡ roomFor t words
     room-after = room-like t after words long
 
-    abbrev Goal : Bool → Bool → Type 0
-    Goal a b = seen (wordsOf t′) ≡ cond (a && b) (call (wordsOf t) (wordsOf t2)) (refused (wordsOf t))
+    -- what is seen with room for the first graph's records, by the room for the second's
+    abbrev Either : Bool → S
+    Either b = cond b (call (wordsOf t) (wordsOf t2)) (refused (wordsOf t))
 
-    -- what is seen
-    with-room : roomFor t words ≡ true → (b : Bool) → roomFor t2 words2 ≡ b → Goal true b
-    with-room e true f =
-        ap seen (backs (room-after ∙ e)) ∙ (tested ∙ ((λ j. Test (e j) (f j)) ∙ (λ j. call (laid-front t words e j) (laid-front t2 words2 f j))))
-    with-room e false f = ap seen (backs (room-after ∙ e)) ∙ (tested ∙ ((λ j. Test (e j) (f j)) ∙ ap refused (laid-front t words e)))
+    with-room : roomFor t words ≡ true → (b : Bool) → roomFor t2 words2 ≡ b → seen (front (length t) after) ≡ Either b
+    with-room e true f = tested ∙ ((λ j. Test (e j) (f j)) ∙ (λ j. call (laid-front t words e j) (laid-front t2 words2 f j)))
+    with-room e false f = tested ∙ ((λ j. Test (e j) (f j)) ∙ ap refused (laid-front t words e))
 
     -- too few: the graph is as it was
     refused-at : roomFor t words ≡ false → seen (front (length t) after) ≡ refused (front (length t) words)
     refused-at e = tested ∙ ((λ j. Test (e j) (roomFor t2 words2)) ∙ ap (λ (z : List ℕ). refused (front (length t) z)) (laid-same t words e))
-
-    without : roomFor t words ≡ false → (b : Bool) → Goal false b
-    without e b =
-        ap (λ (u : List Latch). seen (wordsOf u)) (stays (room-after ∙ e))
-        ∙ (sym (put-seen (front (length t) after) (wordsOf t)) ∙ (ap (λ (s : S). put s (wordsOf t)) (refused-at e) ∙ put-refused (front (length t) words) (wordsOf t)))
-
-    seen-right : Goal (roomFor t words) (roomFor t2 words2)
-    seen-right = by-test (roomFor t words) refl
-      where
-        by-test : (a : Bool) → roomFor t words ≡ a → Goal a (roomFor t2 words2)
-        by-test true e = with-room e (roomFor t2 words2) refl
-        by-test false e = without e (roomFor t2 words2)
 
     -- the work words
     untouched : roomFor t words ≡ false → after ≡ words
@@ -153,6 +139,44 @@ module _ {S : Type 0} (call : List ℕ → List ℕ → S) (refused seen : List 
             ∙ (ap (λ (z : List ℕ). replicate (latchWords * length t) 0 ++ z) (kept ∙ laid-behind t words e) ∙ sym (wiped-room t words e))
         by-test false e = ap (wiped (length t)) (untouched e)
 
-    pub on-both-records : pairSeen (seen (wordsOf t′)) (wiped (length t) after) (wiped (length t2) (laidOut t2 words2)) ≡ onBothRecords t words t2 words2 call refused
-    unfolding onBothRecords
-    on-both-records = λ j. pairSeen (seen-right j) (words-right j) (laid-wiped t2 words2 j)
+    -- the records t′ that came back: those of the words where there is room, else as they were
+    module _ (t′ : List Latch) (backs : roomFor t after ≡ true → wordsOf t′ ≡ front (length t) after) (stays : roomFor t after ≡ false → t′ ≡ t) where
+      abbrev Goal : Bool → Bool → Type 0
+      Goal a b = seen (wordsOf t′) ≡ cond (a && b) (call (wordsOf t) (wordsOf t2)) (refused (wordsOf t))
+
+      without : roomFor t words ≡ false → (b : Bool) → Goal false b
+      without e b =
+          ap (λ (u : List Latch). seen (wordsOf u)) (stays (room-after ∙ e))
+          ∙ (sym (put-seen (front (length t) after) (wordsOf t)) ∙ (ap (λ (s : S). put s (wordsOf t)) (refused-at e) ∙ put-refused (front (length t) words) (wordsOf t)))
+
+      seen-right : Goal (roomFor t words) (roomFor t2 words2)
+      seen-right = by-test (roomFor t words) refl
+        where
+          by-test : (a : Bool) → roomFor t words ≡ a → Goal a (roomFor t2 words2)
+          by-test true e = ap seen (backs (room-after ∙ e)) ∙ with-room e (roomFor t2 words2) refl
+          by-test false e = without e (roomFor t2 words2)
+
+      on-both-records : pairSeen (seen (wordsOf t′)) (wiped (length t) after) (wiped (length t2) (laidOut t2 words2)) ≡ onBothRecords t words t2 words2 call refused
+      unfolding onBothRecords
+      on-both-records = λ j. pairSeen (seen-right j) (words-right j) (laid-wiped t2 words2 j)
+
+    abbrev Promise : List Latch → Type 0
+    Promise t′ = pairSeen (seen (wordsOf t′)) (wiped (length t) after) (wiped (length t2) (laidOut t2 words2)) ≡ onBothRecords t words t2 words2 call refused
+
+    -- all of the latches is taken back
+    pub on-both-all : (t′ : List Latch) → t′ ≡ recordsBack t after → Promise t′
+    on-both-all t′ e = on-both-records t′ (λ h. ap wordsOf e ∙ all-back t after h) (λ h. e ∙ back-stays takeAll t after h)
+
+    -- or the nexts, where the call changes of the latches the nexts alone
+    module _ (keeps : (x y : List ℕ) → NextsAlone x (get (call x y))) where
+      kept-by : (b : Bool) → NextsAlone (wordsOf t) (get (Either b))
+      kept-by true = keeps (wordsOf t) (wordsOf t2)
+      kept-by false = subst (NextsAlone (wordsOf t)) (sym (get-refused (wordsOf t))) (λ j. refl)
+
+      alone : roomFor t after ≡ true → NextsAlone (wordsOf t) (front (length t) after)
+      alone h =
+          let e : front (length t) after ≡ get (Either (roomFor t2 words2)) = sym (get-seen (front (length t) after)) ∙ ap get (with-room (sym room-after ∙ h) (roomFor t2 words2) refl) in
+          subst (NextsAlone (wordsOf t)) (sym e) (kept-by (roomFor t2 words2))
+
+      pub on-both-nexts : (t′ : List Latch) → t′ ≡ nextsBack t after → Promise t′
+      on-both-nexts t′ e = on-both-records t′ (λ h. ap wordsOf (e ∙ nexts-all t after h (alone h)) ∙ all-back t after h) (λ h. e ∙ back-stays takeNext t after h)

@@ -25,7 +25,7 @@ use denote.Memory.{shares}
 use denote.Ref.{RefT}
 use denote.Slice.{sliceVal, MutSlice, ShrSlice, heres, Room, at-slice, codedHoleys}
 use denote.Lend.{Held, lends-shr-slice}
-use denote.Index.{row, opens-slice, closes-slice}
+use denote.Index.{opens-slice, closes-slice}
 
 module _ (R : RattleType) (κ κ′ : Lft) (q : Share) (γ : GName) (b o : ℕ) where
   abbrev at-list : GName → List (R .Denot) → RefT (List (R .Denot))

@@ -1,3 +1,4 @@
+pub mod Adding
 pub mod Checking
 pub mod Counts
 pub mod Entries

@@ -1,4 +1,5 @@
 // The same graphs for callers that hold records: the counts lent in place, and a latch table of records.
+pub mod adding;
 pub mod by_lending;
 mod checking;
 mod counts;

@@ -5,16 +5,19 @@ use mathlib.Core.Path.{_≡_, refl, ap}
 use mathlib.Core.Bool.{Bool, true, false, not, _&&_}
 use mathlib.Core.List.{List}
 use lib.ListN.{length}
-use borrow.Author.Tests.{eq-eqb}
+use borrow.Author.Tests.{eq-eqb, ne-eqb}
 use Rattle.rows.specs.Rows.{leafAt}
 use Rattle.graph.specs.Leaves.{member}
 use Rattle.graph.specs.Graph.{Lent}
 use Rattle.graph.specs.WellFormed.{UsedLeaf, listed}
 use Rattle.graph.proofs.Counting.{count-none}
+use Rattle.graph.proofs.Exactly.{names-refused, room-answers}
+use Rattle.roots.proofs.Arguments.{args-answers}
+use Rattle.renumber.specs.Room.{limits, hasRoom}
 use Rattle.renumber.proofs.Fitting.{limited, limits-true}
 use Rattle.reencode.specs.Numbers.{orphanAt, orphans}
 use Rattle.reencode.specs.Rebuilding.{reencoded}
-use Rattle.reencode.specs.Call.{reencodeChecked, reencodeCall}
+use Rattle.reencode.specs.Call.{noOrphan, reencodeAsked, reencodeChecked, reencodeCall}
 use Rattle.reencode.specs.Meaning.{ReencodeRight}
 use Rattle.reencode.proofs.Call.{CallAccepted, checked-accepted, checked-accepts}
 use Rattle.reencode.proofs.Mapping.{leaf-listed}
@@ -44,6 +47,8 @@ module _ (g out : Lent) (marks : List ℕ) where
       record {
         accepts = λ l. checked-accepts g out marks (record { limited = limits-true out (l .limited); sized = l .sized; well-formed = l .well-formed; no-orphan = all-listed g (l .no-orphan); room = l .room });
         accepted = λ z. let a = what z in record { limited = limited out (a .limited); sized = a .sized; well-formed = a .well-formed; no-orphan = leaf-listed g (length marks) (a .sized) (a .well-formed) (a .no-orphan); room = a .room };
+        answers = unfold reencodeChecked reencodeAsked in room-answers (names-refused g) (hasRoom out (g .counts)) (args-answers (limits out) (noOrphan g) g marks);
+        refused = λ n. rw (ne-eqb (reencodeChecked g out marks .given .number) 0 n);
         renews = λ z. let a = what z in rw (graph-done z) (renewed g out (length marks) (a .sized) (a .well-formed) (a .no-orphan) (a .room) (limited out (a .limited)));
         settles = λ z. let a = what z in rw (graph-done z) (settled g out (length marks) (a .sized) (a .well-formed) (a .no-orphan) (a .room) (limited out (a .limited)));
       }

@@ -13,11 +13,12 @@ use Rattle.graph.specs.Latches.{latchAt}
 use Rattle.graph.specs.Graph.{Lent, Sized, noCounts}
 use Rattle.graph.specs.WellFormed.{UsedLeaf, listed, WellFormed}
 use Rattle.renumber.specs.Renumber.{listsOf}
-use Rattle.renumber.specs.Room.{Limited, Room}
+use Rattle.graph.specs.Exactly.{Answers}
+use Rattle.renumber.specs.Room.{limits, hasRoom, Limited, Room}
 use Rattle.renumber.specs.Entries.{Renumbered}
 use Rattle.renumber.specs.Meaning.{Carried, SameValues}
 use Rattle.reencode.specs.Numbers.{newId}
-use Rattle.reencode.specs.Call.{reencodeCall}
+use Rattle.reencode.specs.Call.{noOrphan, reencodeCall}
 
 -- what is lent to the call is right, no leaf is an orphan, and there is room
 pub record ReencodeLent (g out : Lent) (marks : List ℕ) : Type 0 where
@@ -82,5 +83,8 @@ pub record Settled (g : Lent) : Type 0 where
 pub record ReencodeRight (g out : Lent) (marks : List ℕ) : Type 0 where
   pub accepts : ReencodeLent g out marks → reencodeCall g out marks .given ≡ done
   pub accepted : reencodeCall g out marks .given .number ≡ 0 → ReencodeLent g out marks
+  -- each answer exactly in its case, and the marks
+  pub answers : Answers (limits out) (noOrphan g) (hasRoom out (g .counts)) g marks (reencodeCall g out marks .given) (reencodeCall g out marks .marks)
+  pub refused : (reencodeCall g out marks .given .number ≡ 0 → ⊥) → reencodeCall g out marks .graph ≡ out
   pub renews : reencodeCall g out marks .given .number ≡ 0 → Renewed g (reencodeCall g out marks .graph)
   pub settles : reencodeCall g out marks .given .number ≡ 0 → Settled (reencodeCall g out marks .graph)

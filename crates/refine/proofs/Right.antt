@@ -1,24 +1,23 @@
 -- `coi_refine` is right.
 -- Assumes nothing.
 use Prim.Native.Nat.{ℕ}
-use native.Mathlib.Omega.{arith}
 use mathlib.Core.Path.{_≡_, refl, ap, _∙_}
-use mathlib.Core.Bool.{Bool, true, false, cond}
+use mathlib.Core.Bool.{true}
 use mathlib.Core.List.{List}
 use lib.ListN.{length}
-use lib.Dec.{eqb}
 use borrow.Author.Tests.{eq-eqb, ne-eqb, le-leb}
 use Rattle.edge.specs.declared.answer.Given.{Given}
-use Rattle.edge.specs.Answers.{done, noRoom, orElse}
+use Rattle.edge.specs.Answers.{done}
 use Rattle.edge.proofs.Tests.{both-true}
 use Rattle.graph.specs.Graph.{Lent}
-use Rattle.roots.proofs.Arguments.{args-accepts, args-untouched, args-cleared}
+use Rattle.graph.proofs.Exactly.{names-refused, room-answers}
+use Rattle.roots.proofs.Arguments.{args-accepts, args-answers}
 use Rattle.renumber.specs.Room.{limits, hasRoom}
 use Rattle.renumber.proofs.Fitting.{limits-true, room-true}
 use Rattle.refine.specs.Refining.{countsOf, refined, oldRows}
 use Rattle.refine.specs.Call.{refineAsked, refineRoom, refineAnswer, refineCall}
 use Rattle.refine.specs.Meaning.{Refined, RefineLent, RefineRight}
-use Rattle.refine.proofs.Call.{answer-stops, answer-goes, all-right}
+use Rattle.refine.proofs.Call.{answer-goes, all-right}
 use Rattle.refine.proofs.Forming.{is-refined}
 
 module _ (g out : Lent) (old marks : List ℕ) where
@@ -58,23 +57,6 @@ module _ (g out : Lent) (old marks : List ℕ) where
   unfolding refineCall
   refused h = let f = ne-eqb answer 0 h in (rw f, rw f)
 
-  -- ---- the marks: only the check of what is lent answers 1
-  marks-are : refineCall g out old marks .marks ≡ refineAsked g out marks .marks
-  unfolding refineCall
-  marks-are = refl
-
-  by-sizes : answer ≡ 1 → asked .number ≡ 1
-  unfolding refineAnswer orElse
-  by-sizes = go (eqb (asked .number) 0) (refineRoom g out (length old))
-    where
-      go : (t r : Bool) → cond t (cond r done noRoom) asked .number ≡ 1 → asked .number ≡ 1
-      go true true z = absurd (omega arith)
-      go true false z = absurd (omega arith)
-      go false r z = z
-
-  sizes-first : asked .number ≡ 1 → answer ≡ 1
-  sizes-first z = ap (λ (t : Given). t .number) (answer-stops g out (length old) marks (λ (o : asked .number ≡ 0). absurd (omega arith))) ∙ z
-
   pub refine-right : RefineRight g out old marks
   refine-right =
       record {
@@ -82,6 +64,5 @@ module _ (g out : Lent) (old marks : List ℕ) where
         accepted = λ z. unfold refineCall in all-right g out old marks z;
         refines = λ z. unfold refineCall in refines z;
         refused = λ h. unfold refineCall in refused h;
-        untouched = λ z. marks-are ∙ (unfold refineAsked refineCall in args-untouched (limits out) true g marks (by-sizes z));
-        zeroed = λ h. marks-are ∙ (unfold refineAsked refineCall in args-cleared (limits out) true g marks (λ z. h (sizes-first z)));
+        answers = unfold refineCall refineAnswer refineAsked in room-answers (names-refused g) (refineRoom g out (length old)) (args-answers (limits out) true g marks);
       }

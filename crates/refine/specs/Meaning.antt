@@ -3,25 +3,26 @@
 use Prim.Native.Nat.{ℕ, _≤_, _<_}
 use mathlib.Core.Path.{_≡_}
 use mathlib.Core.Logic.{_⊎_}
+use mathlib.Core.Bool.{true}
 use mathlib.Core.List.{List}
 use lib.ListN.{length, getD}
 use Rattle.edge.specs.Edges.{idOf}
 use Rattle.rows.specs.Rows.{none}
 use Rattle.graph.specs.Latches.{latchAt}
 use Rattle.graph.specs.Graph.{Lent, Sized, noCounts}
-use Rattle.graph.specs.Check.{cleared}
 use Rattle.graph.specs.WellFormed.{WellFormed}
+use Rattle.graph.specs.Exactly.{Answers}
 use Rattle.roots.specs.Flags.{Flagged}
 use Rattle.coi.specs.Meaning.{IsCoi}
 use Rattle.graph.specs.Count.{countBelow}
 use Rattle.renumber.specs.Renumber.{listsOf}
-use Rattle.renumber.specs.Room.{Limited, Room}
+use Rattle.renumber.specs.Room.{limits, Limited, Room}
 use Rattle.renumber.specs.Entries.{Renumbered}
 use Rattle.renumber.specs.Meaning.{Carried, SameValues}
 use Rattle.keep.specs.Kept.{refineRoots, keptFlags}
 use Rattle.keep.specs.Keeping.{keptInput}
 use Rattle.refine.specs.Refining.{isKept, newRow, countsOf}
-use Rattle.refine.specs.Call.{refineCall}
+use Rattle.refine.specs.Call.{refineRoom, refineCall}
 
 -- row i is kept
 abbrev pub Kept : Lent → ℕ → Type 0
@@ -94,8 +95,7 @@ pub record RefineLent (g out : Lent) (old marks : List ℕ) : Type 0 where
 pub record RefineRight (g out : Lent) (old marks : List ℕ) : Type 0 where
   pub accepts : RefineLent g out old marks → refineCall g out old marks .given .number ≡ 0
   pub accepted : refineCall g out old marks .given .number ≡ 0 → RefineLent g out old marks
+  -- each answer exactly in its case, and the marks
+  pub answers : Answers (limits out) true (refineRoom g out (length old)) g marks (refineCall g out old marks .given) (refineCall g out old marks .marks)
   pub refines : refineCall g out old marks .given .number ≡ 0 → Refined g (refineCall g out old marks .graph) (refineCall g out old marks .old)
   pub refused : (refineCall g out old marks .given .number ≡ 0 → ⊥) → (refineCall g out old marks .graph ≡ out) × (refineCall g out old marks .old ≡ old)
-  -- "Work marks are zero at exit over the rows used at entry, except after 1, when they are untouched"
-  pub untouched : refineCall g out old marks .given .number ≡ 1 → refineCall g out old marks .marks ≡ marks
-  pub zeroed : (refineCall g out old marks .given .number ≡ 1 → ⊥) → refineCall g out old marks .marks ≡ cleared (g .counts .rows) marks

@@ -15,12 +15,14 @@ use Rattle.edge.specs.declared.answer.Answer.the-variants.{BadSizes, BadArgumen
 use Rattle.edge.specs.declared.answer.Given.{Given}
 use Rattle.edge.specs.Answers.{done, badArgument, told, orElse}
 use Rattle.edge.proofs.Tests.{both, both-true, false-true}
-use Rattle.edge.proofs.Answers.{stops-here, none-of-two, goes-past}
+use Rattle.edge.proofs.Answers.{none-of-two, goes-past}
 use Rattle.graph.specs.Graph.{Lent, Sized}
 use Rattle.graph.specs.Check.{cleared, CheckSeen, checkSeen, checkCall}
 use Rattle.graph.specs.WellFormed.{WellFormed}
+use Rattle.graph.specs.Exactly.{Answers}
 use Rattle.graph.proofs.Checked.{sized}
 use Rattle.graph.proofs.WellFormed.{exact}
+use Rattle.graph.proofs.Exactly.{argument-answers, check-answers, names-refused, own-answers}
 use Rattle.roots.specs.Arguments.{every, argsCall}
 
 -- ---- every entry of a list, by what is left of it
@@ -96,38 +98,17 @@ module _ (room good : Bool) (g : Lent) (marks : List ℕ) where
       go true e h = e
       go false e h = absurd (h refl)
 
-  -- ---- the marks: untouched after 1, and else cleared
-  -- only the check of the graph answers 1 behind it
-  by-check : orElse (checkCall g marks .given) (cond good done badArgument) .number ≡ 1 → checkCall g marks .given .number ≡ 1
-  unfolding orElse
-  by-check = go (eqb (checkCall g marks .given .number) 0) good
-    where
-      go : (t d : Bool) → cond t (cond d done badArgument) (checkCall g marks .given) .number ≡ 1 → checkCall g marks .given .number ≡ 1
-      go true true z = absurd (omega arith)
-      go true false z = absurd (omega arith)
-      go false d z = z
+  -- ---- each answer exactly in its case, and the marks
+  pub args-answers : Answers room good true g marks (argsCall room good g marks .given) (argsCall room good g marks .marks)
+  unfolding argsCall
+  args-answers =
+      own-answers room g marks (record { given = orElse (checkCall g marks .given) (cond good done badArgument); marks = checkCall g marks .marks }) (argument-answers (names-refused g) good (check-answers g marks))
 
   pub args-untouched : argsCall room good g marks .given .number ≡ 1 → argsCall room good g marks .marks ≡ marks
-  unfolding argsCall
-  args-untouched = go room
-    where
-      go : (r : Bool) → cond {A = CheckSeen} r (record { given = orElse (checkCall g marks .given) (cond good done badArgument); marks = checkCall g marks .marks }) (checkSeen BadSizes marks) .given .number ≡ 1
-          → cond {A = CheckSeen} r (record { given = orElse (checkCall g marks .given) (cond good done badArgument); marks = checkCall g marks .marks }) (checkSeen BadSizes marks) .marks ≡ marks
-      go true z = exact g marks .untouched (by-check z)
-      go false z = refl
+  args-untouched = args-answers .untouched
 
   pub args-cleared : (argsCall room good g marks .given .number ≡ 1 → ⊥) → argsCall room good g marks .marks ≡ cleared (g .counts .rows) marks
-  unfolding argsCall
-  args-cleared = go room
-    where
-      one : checkCall g marks .given .number ≡ 1 → orElse (checkCall g marks .given) (cond good done badArgument) .number ≡ 1
-      one z = rw (stops-here (checkCall g marks .given) (cond good done badArgument) (λ (o : checkCall g marks .given .number ≡ 0). absurd (omega arith))) z
-
-      go : (r : Bool)
-          → (cond {A = CheckSeen} r (record { given = orElse (checkCall g marks .given) (cond good done badArgument); marks = checkCall g marks .marks }) (checkSeen BadSizes marks) .given .number ≡ 1 → ⊥)
-          → cond {A = CheckSeen} r (record { given = orElse (checkCall g marks .given) (cond good done badArgument); marks = checkCall g marks .marks }) (checkSeen BadSizes marks) .marks ≡ cleared (g .counts .rows) marks
-      go true h = exact g marks .clear (λ z. h (one z))
-      go false h = absurd (h refl)
+  args-cleared = args-answers .zeroed
 
   -- ---- the graph's check is made, and then the arguments are looked at
   module _ (e : room ≡ true) (a : Answer) (after : List ℕ) (seen : checkSeen a after ≡ checkCall g marks) where

@@ -2,7 +2,7 @@
 -- Assumes nothing.
 use Prim.Native.Nat.{ℕ, _+_, _≤_, _<_}
 use native.Mathlib.Omega.{arith}
-use mathlib.Core.Path.{_≡_, refl, sym, ap, _∙_}
+use mathlib.Core.Path.{_≡_, refl, sym, ap, subst, _∙_}
 use mathlib.Core.Bool.{Bool, true, false, cond, _&&_, _||_}
 use mathlib.Core.List.{List, _++_, append-nil}
 use lib.ListN.{length, getD, drop, length-append, drop-of-length-le}
@@ -13,12 +13,15 @@ use Rattle.edge.specs.declared.answer.Answer.the-variants.{Done, BadSizes, BadA
 use Rattle.edge.specs.declared.answer.Given.{Given}
 use Rattle.edge.specs.Answers.{done, badSizes, badArgument, told, orElse}
 use Rattle.edge.specs.Edges.{idOf}
+use Rattle.edge.proofs.Answers.{stops-here}
 use Rattle.edge.proofs.Tests.{both, false-true}
 use Rattle.rows.specs.Reading.{ifDone}
 use Rattle.graph.specs.Leaves.{usedEdge}
 use Rattle.graph.specs.Graph.{Lent, sizesRight}
 use Rattle.graph.specs.Check.{CheckSeen, checkSeen, checkCall, contents, cleared}
+use Rattle.graph.specs.Exactly.{Answers}
 use Rattle.graph.proofs.WellFormed.{exact}
+use Rattle.graph.proofs.Exactly.{argument-answers, check-answers, names-refused, own-answers}
 use Rattle.ternary.specs.Codes.{edge3, Codes, allCodes}
 use Rattle.ternary.specs.Run.{leaves, codesOf, run, next, nexts, nextRow, Within, Ready}
 use Rattle.ternary.specs.Calls.{Accepted, argumentsRight, answerOf, written, RunSeen, runSeen, runCall, stepSeen, stepCall, ValueSeen, valueGiven, valueCall}
@@ -238,6 +241,47 @@ module _ (g : Lent) (input state values marks : List ℕ) where
       go true true false h p q e a z = absurd (eqb-false _ _ e z)
       go true false k h p q e a z = absurd (omega arith)
       go false t k h p q e a z = absurd (omega arith)
+
+-- ---- each answer exactly in its case, and the marks
+module _ (g : Lent) (input state values marks : List ℕ) where
+  abbrev own : Bool
+  own = leb (g .counts .rows) (length values)
+
+  abbrev good : Bool
+  good = argumentsRight (g .counts .inputs) (g .counts .latches) input state
+
+  -- the call's sizes are its own and the graph's, one after the other
+  as-checked : (o t : Bool)
+      → cond {A = CheckSeen} (o && t) (record { given = answerOf g input state; marks = cleared (g .counts .rows) marks }) (record { given = badSizes; marks = marks })
+      ≡ cond {A = CheckSeen} o (record {
+        given = orElse (cond {A = CheckSeen} t (record { given = contents g; marks = cleared (g .counts .rows) marks }) (record { given = badSizes; marks = marks }) .given) (cond good done badArgument);
+        marks = cond {A = CheckSeen} t (record { given = contents g; marks = cleared (g .counts .rows) marks }) (record { given = badSizes; marks = marks }) .marks;
+      }) (record { given = badSizes; marks = marks })
+  unfolding answerOf
+  as-checked true true = refl
+  as-checked true false = ap (λ (t : Given). record { given = t; marks = marks }) (sym (stops-here badSizes (cond good done badArgument) (λ (z : _≡_ {A = ℕ} 1 0). omega arith)))
+  as-checked false t = refl
+
+  run-seen : record { given = runCall g input state values marks .given; marks = runCall g input state values marks .marks }
+      ≡ cond {A = CheckSeen} own (record { given = orElse (checkCall g marks .given) (cond good done badArgument); marks = checkCall g marks .marks }) (record { given = badSizes; marks = marks })
+  unfolding runCall checkCall
+  run-seen = go (own && sizesRight g (length marks)) ∙ as-checked own (sizesRight g (length marks))
+    where
+      run : Bool → RunSeen
+      run t =
+          cond t
+          (record { given = answerOf g input state; values = ifDone (answerOf g input state) (written g input state values) values; marks = cleared (g .counts .rows) marks })
+          (record { given = badSizes; values = values; marks = marks })
+
+      go : (t : Bool) → record { given = run t .given; marks = run t .marks }
+          ≡ cond {A = CheckSeen} t (record { given = answerOf g input state; marks = cleared (g .counts .rows) marks }) (record { given = badSizes; marks = marks })
+      go true = refl
+      go false = refl
+
+  pub answers : Answers own good true g marks (runCall g input state values marks .given) (runCall g input state values marks .marks)
+  answers =
+      let a = own-answers own g marks (record { given = orElse (checkCall g marks .given) (cond good done badArgument); marks = checkCall g marks .marks }) (argument-answers (names-refused g) good (check-answers g marks)) in
+      subst (λ (s : CheckSeen). Answers own good true g marks (s .given) (s .marks)) (sym run-seen) a
 
 -- ---- the step
 pub run-long : (g : Lent) (input state : List ℕ) → length (run g input state) ≡ g .counts .rows

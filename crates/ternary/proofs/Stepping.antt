@@ -13,14 +13,14 @@ use Rattle.graph.specs.Check.{cleared}
 use Rattle.ternary.specs.Codes.{Codes}
 use Rattle.ternary.specs.Run.{codesOf, run, next, stateAt}
 use Rattle.ternary.specs.Calls.{written, StepSeen, stepCall, stepCalls, Accepted}
-use Rattle.ternary.specs.Meaning.{Exactly, Steps, Inputs}
+use Rattle.ternary.specs.Meaning.{RunRight, Steps, Inputs}
 use Rattle.ternary.proofs.Coding.{edge-code}
 use Rattle.ternary.proofs.Running.{leaves-codes, rows-codes, nexts-long, nexts-at}
-use Rattle.ternary.proofs.Answering.{accepts, accepted, run-long}
+use Rattle.ternary.proofs.Answering.{accepts, accepted, answers, run-long}
 use Rattle.ternary.proofs.Ruling.{leafCodes}
 
-pub exactly : (g : Lent) (input state values marks : List ℕ) → Exactly g input state values marks
-exactly g input state values marks = record { accepted = accepted g input state values marks; accepts = accepts g input state values marks }
+pub run-right : (g : Lent) (input state values marks : List ℕ) → RunRight g input state values marks
+run-right g input state values marks = record { accepted = accepted g input state values marks; accepts = accepts g input state values marks; answers = answers g input state values marks }
 
 -- ---- what a step leaves is good for the next
 module _ (g : Lent) (input state values marks : List ℕ) (a : Accepted g input state values marks) where

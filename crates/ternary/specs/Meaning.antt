@@ -6,7 +6,7 @@ use mathlib.Core.Bool.{Bool, true, cond}
 use mathlib.Core.Logic.{_⊎_}
 use mathlib.Core.List.{List, [], _∷_, _++_}
 use lib.ListN.{length, getD, drop}
-use lib.Dec.{eqb}
+use lib.Dec.{leb, eqb}
 use Rattle.edge.specs.Answers.{done}
 use Rattle.edge.specs.Meaning.{edgeValue}
 use Rattle.rows.specs.Rows.{word0, word1, leafAt, gateAt}
@@ -14,15 +14,18 @@ use Rattle.rows.specs.Value.{value, InCone}
 use Rattle.graph.specs.Latches.{latchAt}
 use Rattle.graph.specs.Graph.{Lent, lent}
 use Rattle.graph.specs.Check.{cleared}
+use Rattle.graph.specs.Exactly.{Answers}
 use Rattle.ternary.specs.Codes.{unknown, and3, edge3, Codes}
 use Rattle.ternary.specs.Run.{inputRow, latchRow, nextRow, run, next, stateAt, frame}
-use Rattle.ternary.specs.Calls.{written, runCall, Accepted, stepCalls}
+use Rattle.ternary.specs.Calls.{argumentsRight, written, runCall, Accepted, stepCalls}
 
 -- ---- when it is done, and what then
 -- the run is done exactly where everything is as it must be, and then it writes the codes
-pub record Exactly (g : Lent) (input state values marks : List ℕ) : Type 0 where
+pub record RunRight (g : Lent) (input state values marks : List ℕ) : Type 0 where
   pub accepted : runCall g input state values marks .given .number ≡ 0 → Accepted g input state values marks
   pub accepts : Accepted g input state values marks → runCall g input state values marks ≡ record { given = done; values = written g input state values; marks = cleared (g .counts .rows) marks }
+  -- each answer exactly in its case, and the marks
+  pub answers : Answers (leb (g .counts .rows) (length values)) (argumentsRight (g .counts .inputs) (g .counts .latches) input state) true g marks (runCall g input state values marks .given) (runCall g input state values marks .marks)
 
 -- ---- the rules
 -- inputs or latches list row x; "a leaf in neither list is an orphan"

@@ -4,23 +4,23 @@ use Prim.Native.Nat.{ℕ, _≤_}
 use native.Mathlib.Omega.{arith}
 use mathlib.Core.Path.{_≡_, refl, sym, ap, _∙_}
 use mathlib.Core.Bool.{Bool, true, false, cond}
-use mathlib.Core.Logic.{⊎-elim}
+use mathlib.Core.Logic.{inl, inr, ⊎-elim}
 use mathlib.Core.List.{List}
 use lib.ListN.{length}
-use lib.Dec.{eqb}
-use borrow.Author.Tests.{eq-eqb, ne-eqb, eqb-true, eqb-false}
+use borrow.Author.Tests.{eq-eqb, ne-eqb}
 use Rattle.edge.specs.declared.answer.Given.{Given}
-use Rattle.edge.specs.Answers.{done, badSizes, badArgument, noRoom, orElse}
+use Rattle.edge.specs.Answers.{done, badArgument, noRoom, orElse}
 use Rattle.edge.proofs.Answers.{stops-here, goes-past, none-of-two}
 use Rattle.edge.proofs.Tests.{false-true}
 use Rattle.graph.specs.Graph.{Lent}
 use Rattle.graph.specs.Stages.{Names}
-use Rattle.graph.specs.Stages.Names.{here, later}
-use Rattle.graph.specs.Check.{stages, contents, cleared, CheckSeen}
-use Rattle.graph.specs.Pair.{larger, sizesOfTwo, checkTwoCall}
-use Rattle.graph.proofs.Stages.{judged, clean-done, named-entry}
-use Rattle.graph.proofs.Stages.Entries.{ends, also}
+use Rattle.graph.specs.Check.{stages}
+use Rattle.graph.specs.WellFormed.{WellFormed}
+use Rattle.graph.specs.Pair.{SizedTwo, checkTwoCall}
+use Rattle.graph.specs.Exactly.{Exactly, all-right, wrong-sizes, faulty, wrong-argument, full, FaultOfTwo, AnswersTwo}
+use Rattle.graph.proofs.WellFormed.{row-or-entry}
 use Rattle.graph.proofs.Pairing.{exact-two}
+use Rattle.graph.proofs.Exactly.{argument-answers, room-answers, two-refused, check-two-answers}
 use Rattle.renumber.specs.Room.{Room}
 use Rattle.renumber.proofs.Fitting.{roomy, room-true}
 use Rattle.frame.specs.Frame.{framed, frameFits}
@@ -32,31 +32,13 @@ use Rattle.unroll.specs.Meaning.{TwoGraphs, UnrollLent, UnrollRight}
 use Rattle.unroll.proofs.Starting.{start-same, same-start}
 use Rattle.unroll.proofs.Call.{checked-ready}
 
--- ---- the check answers 0 to 3
-contents-small : (g : Lent) → contents g .number ≤ 3
-unfolding contents
-contents-small g = ⊎-elim (λ all. rw (clean-done all) (omega arith)) (λ first. named first) (judged (stages g))
+-- a number that names a fault is 2 or 3
+fault-small : (a b : Lent) (p : Given) → FaultOfTwo a b p → p .number ≤ 3
+fault-small a b p (inl names) = small a names
   where
-    named : {p : Given} → Names (stages g) p → p .number ≤ 3
-    named (here i l b before) = omega arith
-    named (later rows names) =
-        omega (arith, named-entry (also (λ i. refl) (also (λ i. refl) (also (λ i. refl) (also (λ i. refl) (also (λ i. refl) (also (λ i. refl) (also (λ i. refl) (also (λ i. refl) (also (λ i. refl) ends))))))))) names)
-
-either-small : (g h : Given) → g .number ≤ 3 → h .number ≤ 3 → orElse g h .number ≤ 3
-unfolding orElse
-either-small g h p q = go (eqb (g .number) 0)
-  where
-    go : (t : Bool) → cond t h g .number ≤ 3
-    go true = q
-    go false = p
-
-two-small : (a b : Lent) (marks : List ℕ) → checkTwoCall a b marks .given .number ≤ 3
-unfolding checkTwoCall
-two-small a b marks = go (sizesOfTwo a b (length marks))
-  where
-    go : (t : Bool) → cond {A = CheckSeen} t (record { given = orElse (contents a) (contents b); marks = cleared (larger (a .counts .rows) (b .counts .rows)) marks }) (record { given = badSizes; marks = marks }) .given .number ≤ 3
-    go true = either-small (contents a) (contents b) (contents-small a) (contents-small b)
-    go false = omega arith
+    small : (g : Lent) → Names (stages g) p → p .number ≤ 3
+    small g names = ⊎-elim (λ t. omega (arith, t .0)) (λ t. omega (arith, t .0)) (row-or-entry g names)
+fault-small a b p (inr second) = ⊎-elim (λ t. omega (arith, t .0)) (λ t. omega (arith, t .0)) (row-or-entry b (second .1))
 
 -- ---- the answer, stage by stage
 module _ (a b : Lent) (marks : List ℕ) where
@@ -156,36 +138,23 @@ module _ (a b : Lent) (marks : List ℕ) where
       answer ∙ rw (passes t, not-start n)
       (ap (λ (g : Given). orElse g room) (goes-past done badArgument refl) ∙ stops-here badArgument room (λ (e : _≡_ {A = ℕ} 4 0). omega arith))
 
-  -- 4 and 5 come from the tests alone
-  data By : Given → Type 0 where
-    check : {g : Given} → g .number ≤ 3 → By g
-    differs : TwoGraphs a b (length marks) → (SameStart a b → ⊥) → By badArgument
-    full : TwoGraphs a b (length marks) → SameStart a b → (Room a (framed a b .counts) → ⊥) → By noRoom
+  is-exactly : AnswersTwo (sameStart a b) (frameFits a b) a b marks (unrollAnswer a b marks) (unrollChecked a b marks .marks)
+  unfolding unrollAnswer unrollChecked
+  is-exactly = room-answers (two-refused a b) (frameFits a b) (argument-answers (two-refused a b) (sameStart a b) (check-two-answers a b marks))
 
-  by : By (unrollAnswer a b marks)
-  by = rw answer (go (eqb (checks .number) 0) refl)
-    where
-      on : TwoGraphs a b (length marks) → (s : Bool) → sameStart a b ≡ s → By (orElse (cond s done badArgument) room)
-      on t true e = rw (goes-past done room refl) (last (frameFits a b) refl)
-        where
-          last : (f : Bool) → frameFits a b ≡ f → By (cond f done noRoom)
-          last true q = check {g = done} (omega arith)
-          last false q = full t (start-same a b e) (λ s. false-true (sym q ∙ room-fits s))
-      on t false e = rw (stops-here badArgument room (λ (z : _≡_ {A = ℕ} 4 0). omega arith)) (differs t (λ s. false-true (sym e ∙ same-start a b s)))
-
-      go : (t : Bool) → eqb (checks .number) 0 ≡ t → By (orElse (orElse checks start) room)
-      go true e = let z = eqb-true (checks .number) 0 e in rw (goes-past checks start z) (on (passed z) (sameStart a b) refl)
-      go false e =
-          let n = eqb-false (checks .number) 0 e in
-          rw (stops-here checks start n, stops-here checks room n) (check (two-small a b marks))
+  -- the case of an answer
+  abbrev Case : Given → Type 0
+  Case = Exactly (SizedTwo a b (length marks)) (WellFormed a × WellFormed b) (FaultOfTwo a b) (sameStart a b) (frameFits a b)
 
   refused-start : unrollAnswer a b marks .number ≡ 4 → TwoGraphs a b (length marks) × (SameStart a b → ⊥)
-  refused-start z = go by z
+  refused-start z = go (is-exactly .exactly) z
     where
-      go : {g : Given} → By g → g .number ≡ 4 → TwoGraphs a b (length marks) × (SameStart a b → ⊥)
-      go (check l) z = absurd (omega arith)
-      go (differs t n) z = (t, n)
-      go (full t s n) z = absurd (omega arith)
+      go : {p : Given} → Case p → p .number ≡ 4 → TwoGraphs a b (length marks) × (SameStart a b → ⊥)
+      go (all-right s f h r) z = absurd (omega arith)
+      go (wrong-sizes w) z = absurd (omega arith)
+      go (faulty {p} s n x) z = absurd (omega (arith, z, fault-small a b p x))
+      go (wrong-argument s f h) z = (record { sized = s; target = f .0; from = f .1 }, λ t. false-true (sym h ∙ same-start a b t))
+      go (full s f h r) z = absurd (omega arith)
 
   -- ---- 5
   refuses-room : TwoGraphs a b (length marks) → SameStart a b → (Room a (framed a b .counts) → ⊥) → unrollAnswer a b marks ≡ noRoom
@@ -194,12 +163,14 @@ module _ (a b : Lent) (marks : List ℕ) where
       (ap (λ (g : Given). orElse g noRoom) (goes-past done done refl) ∙ goes-past done noRoom refl)
 
   refused-room : unrollAnswer a b marks .number ≡ 5 → TwoGraphs a b (length marks) × SameStart a b × (Room a (framed a b .counts) → ⊥)
-  refused-room z = go by z
+  refused-room z = go (is-exactly .exactly) z
     where
-      go : {g : Given} → By g → g .number ≡ 5 → TwoGraphs a b (length marks) × SameStart a b × (Room a (framed a b .counts) → ⊥)
-      go (check l) z = absurd (omega arith)
-      go (differs t n) z = absurd (omega arith)
-      go (full t s n) z = (t, s, n)
+      go : {p : Given} → Case p → p .number ≡ 5 → TwoGraphs a b (length marks) × SameStart a b × (Room a (framed a b .counts) → ⊥)
+      go (all-right s f h r) z = absurd (omega arith)
+      go (wrong-sizes w) z = absurd (omega arith)
+      go (faulty {p} s n x) z = absurd (omega (arith, z, fault-small a b p x))
+      go (wrong-argument s f h) z = absurd (omega arith)
+      go (full s f h r) z = (record { sized = s; target = f .0; from = f .1 }, start-same a b h, λ t. false-true (sym r ∙ room-fits t))
 
   pub unroll-right : UnrollRight a b marks
   unroll-right =
@@ -209,6 +180,7 @@ module _ (a b : Lent) (marks : List ℕ) where
         added = λ z. let k = sym number ∙ z in rw (written k) (frame-added a b (length marks) (frame-room k));
         again = λ z. let k = sym number ∙ z in rw (written k) (frame-ready-again a b (length marks) (frame-room k));
         refused = λ n. refused (λ z. n (number ∙ z));
+        answers = unfold unrollCall in is-exactly;
         refuses-start = λ t n. given ∙ refuses-start t n;
         refused-start = λ z. refused-start (sym number ∙ z);
         refuses-room = λ t s n. given ∙ refuses-room t s n;

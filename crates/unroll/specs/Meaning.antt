@@ -8,11 +8,12 @@ use Rattle.edge.specs.Answers.{badArgument, noRoom}
 use Rattle.graph.specs.Graph.{Lent}
 use Rattle.graph.specs.WellFormed.{WellFormed}
 use Rattle.graph.specs.Pair.{SizedTwo}
+use Rattle.graph.specs.Exactly.{AnswersTwo}
 use Rattle.renumber.specs.Room.{Room}
-use Rattle.frame.specs.Frame.{framed}
+use Rattle.frame.specs.Frame.{framed, frameFits}
 use Rattle.frame.specs.Call.{SameStart, FrameReady}
 use Rattle.frame.specs.Meaning.{FrameAdded}
-use Rattle.unroll.specs.Unroll.{unrollCall}
+use Rattle.unroll.specs.Unroll.{sameStart, unrollCall}
 
 -- both are well-formed graphs of right sizes
 pub record TwoGraphs (a b : Lent) (marks : ℕ) : Type 0 where
@@ -35,6 +36,8 @@ pub record UnrollRight (a b : Lent) (marks : List ℕ) : Type 0 where
   pub again : unrollCall a b marks .given .number ≡ 0 → FrameReady (unrollCall a b marks .graph) b (length marks)
   -- else the target is as it was
   pub refused : (unrollCall a b marks .given .number ≡ 0 → ⊥) → unrollCall a b marks .graph ≡ a
+  -- each answer exactly in its case, and the marks
+  pub answers : AnswersTwo (sameStart a b) (frameFits a b) a b marks (unrollCall a b marks .given) (unrollCall a b marks .marks)
   -- 4: the first rows or the latch inputs differ
   pub refuses-start : TwoGraphs a b (length marks) → (SameStart a b → ⊥) → unrollCall a b marks .given ≡ badArgument
   pub refused-start : unrollCall a b marks .given .number ≡ 4 → TwoGraphs a b (length marks) × (SameStart a b → ⊥)

@@ -3,21 +3,23 @@
 use Prim.Native.Nat.{ℕ, zero, suc, _+_, _≤_, _<_}
 use native.Mathlib.Omega.{arith}
 use mathlib.Core.Path.{_≡_, refl, sym, ap, _∙_}
-use mathlib.Core.Bool.{Bool, true, false, cond}
+use mathlib.Core.Bool.{Bool, true, false, cond, _&&_}
 use mathlib.Core.Logic.{⊎-elim}
 use mathlib.Core.List.{List}
 use lib.ListN.{length}
-use lib.Dec.{eqb, leb}
-use borrow.Author.Tests.{eq-eqb, ne-eqb, eqb-true, eqb-false, le-leb, leb-true, lt-ltb, le-ltb}
+use lib.Dec.{eqb, ltb, leb}
+use borrow.Author.Tests.{eq-eqb, ne-eqb, eqb-true, eqb-false, le-leb, leb-true, lt-ltb, le-ltb, lt-leb}
 use Rattle.edge.specs.declared.answer.Given.{Given}
-use Rattle.edge.specs.Answers.{done, noRoom}
+use Rattle.edge.specs.Answers.{done, noRoom, orElse}
 use Rattle.edge.proofs.Tests.{lt-or-le, false-true}
 use Rattle.graph.specs.Graph.{Lent}
-use Rattle.renumber.specs.Room.{hasRoom, Room}
+use Rattle.graph.proofs.Exactly.{names-refused, room-answers}
+use Rattle.roots.proofs.Arguments.{args-answers}
+use Rattle.renumber.specs.Room.{limits, hasRoom, Room}
 use Rattle.renumber.proofs.Fitting.{limited, limits-true, roomy, room-true}
-use Rattle.copy.specs.Copying.{copyOf}
+use Rattle.copy.specs.Copying.{copyOf, copyAsked}
 use Rattle.copy.proofs.Copying.{is-copy}
-use Rattle.copy.proofs.Asking.{asked-accepted, asked-accepts, asked-cleared, asked-untouched}
+use Rattle.copy.proofs.Asking.{asked-accepted, asked-accepts}
 use Rattle.frame.specs.Frame.{framed, frameFits}
 use Rattle.frame.specs.Call.{FrameReady}
 use Rattle.frame.specs.Meaning.{FrameAdded}
@@ -28,7 +30,7 @@ use Rattle.unroll.proofs.Call.{alone}
 use Rattle.unroll.proofs.Meaning.{unroll-right}
 use Rattle.unroll_to.specs.Frames.{Frames, frames, framesOn, unrolled}
 use Rattle.unroll_to.specs.Call.{maxFrames, unrollAsked, Ran, ran, framesAnswer, framesRan, emptied, unrollRan, unrollToCall}
-use Rattle.unroll_to.specs.Meaning.{afterFrames, Standing, SingleFrames, UnrollLent, Unrolls, UnrollToRight}
+use Rattle.unroll_to.specs.Meaning.{afterFrames, Standing, SingleFrames, UnrollLent, Unrolls, allFit, UnrollToRight}
 use Rattle.unroll_to.proofs.Going.{ready-again}
 use Rattle.unroll_to.proofs.Starting.{frame-ready}
 
@@ -216,32 +218,29 @@ module _ (g out : Lent) (n : ℕ) (marks : List ℕ) where
           let h = eqb-false (asked .number) 0 e in
           absurd (h (ap (λ (x : Ran). x .given .number) (sym (seen-wrong h)) ∙ z))
 
-  -- ---- the marks: only the check of what is lent answers 1
-  by-sizes : seen .given .number ≡ 1 → asked .number ≡ 1
-  by-sizes z = go (eqb (asked .number) 0) refl
+  -- ---- the answer: 5 stands for the copy and the frames together
+  full-or-done : unrollRan g out n .given ≡ cond (allFit g out n) done noRoom
+  unfolding unrollRan framesAnswer
+  full-or-done = by-copy (hasRoom out (g .counts))
     where
-      answers : (l : UnrollLent g out n marks) (t : Bool) → hasRoom out (g .counts) ≡ t → asked .number ≡ 1
-      answers l true e =
-          let q = seen-room l (roomy out (g .counts) e) in
-          absurd
-          (⊎-elim
-          (λ (m : s .finished < n). omega (arith, z, ap (λ (x : Ran). x .given .number) q, ap (λ (t : Given). t .number) (some-missed m)))
-          (λ (m : n ≤ s .finished). omega (arith, z, ap (λ (x : Ran). x .given .number) q, ap (λ (t : Given). t .number) (all-done (omega (arith, is-standing .within)))))
-          (lt-or-le (s .finished) n))
-      answers l false e =
-          let q : seen ≡ ran noRoom 0 (emptied out) = seen-right l ∙ (unfold unrollRan in rw e) in
-          absurd (omega (arith, z, ap (λ (x : Ran). x .given .number) q))
+      by-frames : cond (ltb (s .finished) n) noRoom done ≡ cond (leb n (s .finished)) done noRoom
+      by-frames =
+          ⊎-elim
+          (λ (l : s .finished < n). rw (lt-ltb (s .finished) n l, lt-leb n (s .finished) l))
+          (λ (l : n ≤ s .finished). rw (le-ltb (s .finished) n l, le-leb n (s .finished) l))
+          (lt-or-le (s .finished) n)
 
-      go : (t : Bool) → eqb (asked .number) 0 ≡ t → asked .number ≡ 1
-      go true e = answers (right-asked (eqb-true _ _ e)) (hasRoom out (g .counts)) refl
-      go false e = ap (λ (x : Ran). x .given .number) (sym (seen-wrong (eqb-false (asked .number) 0 e))) ∙ z
+      by-copy : (t : Bool) → cond t (framesRan n s) (ran noRoom 0 (emptied out)) .given ≡ cond (t && leb n (s .finished)) done noRoom
+      by-copy true = by-frames
+      by-copy false = refl
 
-  sizes-first : asked .number ≡ 1 → seen .given .number ≡ 1
-  sizes-first o = ap (λ (x : Ran). x .given .number) (seen-wrong (λ (z : asked .number ≡ 0). absurd (omega arith))) ∙ o
-
-  marks-are : unrollToCall g out n marks .marks ≡ unrollAsked g out n marks .marks
-  unfolding unrollToCall
-  marks-are = refl
+  answer : seen .given ≡ orElse asked (cond (allFit g out n) done noRoom)
+  unfolding unrollToCall orElse
+  answer = go (eqb (asked .number) 0)
+    where
+      go : (t : Bool) → cond t (unrollRan g out n) (ran asked 0 out) .given ≡ cond t (cond (allFit g out n) done noRoom) asked
+      go true = full-or-done
+      go false = refl
 
   pub unroll-to-right : UnrollToRight g out n marks
   unroll-to-right =
@@ -250,6 +249,5 @@ module _ (g out : Lent) (n : ℕ) (marks : List ℕ) where
         no-copy = λ l h. let q = no-copy l h in (ap (λ (x : Ran). x .given) q, ap (λ (x : Ran). x .finished) q, ap (λ (x : Ran). x .graph) q);
         accepted = accepted;
         refused = λ h. let q = seen-wrong (λ z. h (right-asked z)) in (ap (λ (x : Ran). x .finished) q, ap (λ (x : Ran). x .graph) q);
-        untouched = λ z. marks-are ∙ asked-untouched (leb n maxFrames) g out marks (by-sizes z);
-        zeroed = λ h. marks-are ∙ asked-cleared (leb n maxFrames) g out marks (λ o. h (sizes-first o));
+        answers = rw answer (unfold unrollToCall copyAsked in room-answers (names-refused g) (allFit g out n) (args-answers (limits out) (leb n maxFrames) g marks));
       }

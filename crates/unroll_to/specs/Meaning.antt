@@ -2,20 +2,22 @@
 -- Assumes nothing.
 use Prim.Native.Nat.{ℕ, zero, suc, _≤_, _<_}
 use mathlib.Core.Path.{_≡_}
-use mathlib.Core.Bool.{true, false}
+use mathlib.Core.Bool.{Bool, true, false, _&&_}
 use mathlib.Core.List.{List}
 use lib.ListN.{length}
+use lib.Dec.{leb}
 use Rattle.edge.specs.Answers.{done, noRoom}
 use Rattle.graph.specs.Graph.{Lent, Sized}
-use Rattle.graph.specs.Check.{cleared}
 use Rattle.graph.specs.WellFormed.{WellFormed}
-use Rattle.renumber.specs.Room.{Limited, Room}
+use Rattle.graph.specs.Exactly.{Answers}
+use Rattle.renumber.specs.Room.{limits, hasRoom, Limited, Room}
 use Rattle.copy.specs.Copying.{copyOf}
 use Rattle.copy.specs.Meaning.{IsCopy}
 use Rattle.frame.specs.Frame.{framed, frameFits}
 use Rattle.frame.specs.Call.{FrameReady}
 use Rattle.frame.specs.Meaning.{FrameAdded}
 use Rattle.unroll.specs.Unroll.{unrollCall}
+use Rattle.unroll_to.specs.Frames.{unrolled}
 use Rattle.unroll_to.specs.Call.{maxFrames, Ran, emptied, unrollToCall}
 
 -- k single frames of b, one after the other, as `unroll` adds each
@@ -56,6 +58,10 @@ pub record Unrolls (g out : Lent) (n : ℕ) (marks : List ℕ) (r : Ran) : Type 
   -- the result is sized and well-formed, and can be unrolled on
   pub ready : FrameReady (r .graph) g (length marks)
 
+-- the copy fits, and so does every frame
+abbrev pub allFit : Lent → Lent → ℕ → Bool
+allFit g out n = hasRoom out (g .counts) && leb n (unrolled g out n .finished)
+
 pub record UnrollToRight (g out : Lent) (n : ℕ) (marks : List ℕ) : Type 0 where
   pub unrolls : UnrollLent g out n marks → Room out (g .counts) → Unrolls g out n marks (unrollToCall g out n marks .ran)
   -- "if the copy itself doesn't fit, nothing is written and the number is 0"
@@ -65,6 +71,5 @@ pub record UnrollToRight (g out : Lent) (n : ℕ) (marks : List ℕ) : Type 0 wh
   pub accepted : unrollToCall g out n marks .ran .given .number ≡ 0 → UnrollLent g out n marks × Room out (g .counts) × (unrollToCall g out n marks .ran .finished ≡ n)
   -- where something lent is wrong nothing is written
   pub refused : (UnrollLent g out n marks → ⊥) → (unrollToCall g out n marks .ran .finished ≡ 0) × (unrollToCall g out n marks .ran .graph ≡ out)
-  -- "Work marks are zero at exit over the rows used at entry, except after 1, when they are untouched"
-  pub untouched : unrollToCall g out n marks .ran .given .number ≡ 1 → unrollToCall g out n marks .marks ≡ marks
-  pub zeroed : (unrollToCall g out n marks .ran .given .number ≡ 1 → ⊥) → unrollToCall g out n marks .marks ≡ cleared (g .counts .rows) marks
+  -- each answer exactly in its case, and the marks: 4 "above 4,096 frames", 5 where the copy or one of the frames does not fit
+  pub answers : Answers (limits out) (leb n maxFrames) (allFit g out n) g marks (unrollToCall g out n marks .ran .given) (unrollToCall g out n marks .marks)

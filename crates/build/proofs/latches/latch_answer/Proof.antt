@@ -1,9 +1,9 @@
--- `build::leaves::latch_answer` meets its contract.
+-- `build::latches::latch_answer` meets its contract.
 -- Assumes nothing.
 use Rattle.build.specs.Leaves.{latchAnswer}
 use borrow.Author.Needs.{needs}
-use Rattle.build.proofs.leaves.latch_answer.Statement.{statement}
-use Rattle.build.proofs.leaves.latch_answer.Tie as tie
+use Rattle.build.proofs.latches.latch_answer.Statement.{statement}
+use Rattle.build.proofs.latches.latch_answer.Tie as tie
 
 rows-fit-requires : tie.Need-rows-fit-requires
 rows-fit-requires c κs = search needs

@@ -1,0 +1,166 @@
+-- The answers of a call are those of document 01's table, each exactly in its case: of the check itself, then with what a call looks at behind it.
+-- Assumes nothing.
+use Prim.Native.Nat.{ℕ}
+use native.Mathlib.Omega.{arith}
+use mathlib.Core.Path.{_≡_, refl, sym, ap, _∙_}
+use mathlib.Core.Bool.{Bool, true, false, cond}
+use mathlib.Core.Logic.{inl, inr, ⊎-elim}
+use mathlib.Core.List.{List}
+use lib.ListN.{length}
+use lib.Dec.{eqb}
+use borrow.Author.Tests.{eqb-true, eqb-false}
+use Rattle.edge.specs.declared.answer.Given.{Given}
+use Rattle.edge.specs.Answers.{done, badSizes, badArgument, noRoom, orElse}
+use Rattle.edge.proofs.Tests.{both-true, false-true}
+use Rattle.edge.proofs.Answers.{stops-here, goes-past}
+use Rattle.graph.specs.Graph.{Lent, Sized, sizesRight}
+use Rattle.graph.specs.Stages.{Names}
+use Rattle.graph.specs.Check.{CheckSeen, cleared, stages, checkCall}
+use Rattle.graph.specs.WellFormed.{WellFormed}
+use Rattle.graph.specs.Exactly.{Exactly, all-right, wrong-sizes, faulty, wrong-argument, full, Answered, Answers, FaultOfTwo, AnswersTwo}
+use Rattle.graph.specs.Pair.{larger, sizesOfTwo, SizedTwo, checkTwoCall}
+use Rattle.graph.proofs.Checked.{sized}
+use Rattle.graph.proofs.WellFormed.{sizes-true, row-or-entry, exact}
+use Rattle.graph.proofs.Pairing.{sized-two, exact-two}
+
+-- ---- behind an answer
+module _ {sizes formed : Type 0} {fault : Given → Type 0} (refused : (p : Given) → fault p → p .number ≡ 0 → ⊥) where
+  -- 4 where an argument is wrong
+  then-argument : (good : Bool) {p : Given} → Exactly sizes formed fault true true p → Exactly sizes formed fault good true (orElse p (cond good done badArgument))
+  then-argument good (all-right s f h r) = rw (goes-past done (cond good done badArgument) refl) (go good refl)
+    where
+      go : (d : Bool) → good ≡ d → Exactly sizes formed fault good true (cond d done badArgument)
+      go true e = all-right s f e refl
+      go false e = wrong-argument s f e
+  then-argument good (wrong-sizes w) = rw (stops-here badSizes (cond good done badArgument) (λ (z : _≡_ {A = ℕ} 1 0). omega arith)) (wrong-sizes w)
+  then-argument good (faulty {p} s n x) = rw (stops-here p (cond good done badArgument) (refused p x)) (faulty s n x)
+  then-argument good (wrong-argument s f h) = absurd (false-true (sym h))
+  then-argument good (full s f h r) = absurd (false-true (sym r))
+
+  -- 5 where there is no room
+  then-room : {good : Bool} (room : Bool) {p : Given} → Exactly sizes formed fault good true p → Exactly sizes formed fault good room (orElse p (cond room done noRoom))
+  then-room {good} room (all-right s f h r) = rw (goes-past done (cond room done noRoom) refl) (go room refl)
+    where
+      go : (d : Bool) → room ≡ d → Exactly sizes formed fault good room (cond d done noRoom)
+      go true e = all-right s f h e
+      go false e = full s f h e
+  then-room room (wrong-sizes w) = rw (stops-here badSizes (cond room done noRoom) (λ (z : _≡_ {A = ℕ} 1 0). omega arith)) (wrong-sizes w)
+  then-room room (faulty {p} s n x) = rw (stops-here p (cond room done noRoom) (refused p x)) (faulty s n x)
+  then-room room (wrong-argument s f h) = rw (stops-here badArgument (cond room done noRoom) (λ (z : _≡_ {A = ℕ} 4 0). omega arith)) (wrong-argument s f h)
+  then-room room (full s f h r) = absurd (false-true (sym r))
+
+-- ---- the marks: no answer behind the first is 1
+one-first : (p q : Given) → p .number ≡ 1 → orElse p q .number ≡ 1
+one-first p q z = rw (stops-here p q (λ (o : p .number ≡ 0). absurd (omega arith))) z
+
+one-only : (p q : Given) → (q .number ≡ 1 → ⊥) → orElse p q .number ≡ 1 → p .number ≡ 1
+unfolding orElse
+one-only p q n = go (eqb (p .number) 0)
+  where
+    go : (t : Bool) → cond t q p .number ≡ 1 → p .number ≡ 1
+    go true z = absurd (n z)
+    go false z = z
+
+never-one : (b : Bool) (q : Given) → (q .number ≡ 1 → ⊥) → cond b done q .number ≡ 1 → ⊥
+never-one true q n z = omega arith
+never-one false q n z = n z
+
+module _ {sizes formed : Type 0} {fault : Given → Type 0} (refused : (p : Given) → fault p → p .number ≡ 0 → ⊥) {used : ℕ} {marks : List ℕ} {p : Given} {after : List ℕ} where
+  pub argument-answers : (good : Bool) → Answered sizes formed fault true true used marks p after → Answered sizes formed fault good true used marks (orElse p (cond good done badArgument)) after
+  argument-answers good a = record {
+    exactly = then-argument refused good (a .exactly);
+    untouched = λ z. a .untouched (one-only p (cond good done badArgument) (never-one good badArgument (λ (o : _≡_ {A = ℕ} 4 1). omega arith)) z);
+    zeroed = λ n. a .zeroed (λ z. n (one-first p (cond good done badArgument) z));
+  }
+
+  pub room-answers : {good : Bool} (room : Bool) → Answered sizes formed fault good true used marks p after → Answered sizes formed fault good room used marks (orElse p (cond room done noRoom)) after
+  room-answers room a = record {
+    exactly = then-room refused room (a .exactly);
+    untouched = λ z. a .untouched (one-only p (cond room done noRoom) (never-one room noRoom (λ (o : _≡_ {A = ℕ} 5 1). omega arith)) z);
+    zeroed = λ n. a .zeroed (λ z. n (one-first p (cond room done noRoom) z));
+  }
+
+-- ---- the check
+module _ (g : Lent) (marks : List ℕ) where
+  pub check-answers : Answered (Sized g (length marks)) (WellFormed g) (Names (stages g)) true true (g .counts .rows) marks (checkCall g marks .given) (checkCall g marks .marks)
+  check-answers = record { exactly = by-sizes (sizesRight g (length marks)) refl; untouched = exact g marks .untouched; zeroed = exact g marks .clear }
+    where
+      formed : Sized g (length marks) → (t : Bool) → eqb (checkCall g marks .given .number) 0 ≡ t → Exactly (Sized g (length marks)) (WellFormed g) (Names (stages g)) true true (checkCall g marks .given)
+      formed s true e = let w = exact g marks .accepted (eqb-true _ _ e) .1 in rw (exact g marks .accepts s w) (all-right s w refl refl)
+      formed s false e =
+          let n : WellFormed g → ⊥ = λ w. eqb-false _ _ e (ap (λ (p : Given). p .number) (exact g marks .accepts s w)) in
+          faulty s n (exact g marks .names s n)
+
+      by-sizes : (t : Bool) → sizesRight g (length marks) ≡ t → Exactly (Sized g (length marks)) (WellFormed g) (Names (stages g)) true true (checkCall g marks .given)
+      by-sizes true e = formed (sized g (length marks) e) (eqb (checkCall g marks .given .number) 0) refl
+      by-sizes false e = let n : Sized g (length marks) → ⊥ = λ s. false-true (sym e ∙ sizes-true g (length marks) s) in rw (exact g marks .refuses n) (wrong-sizes n)
+
+pub names-refused : (g : Lent) (p : Given) → Names (stages g) p → p .number ≡ 0 → ⊥
+names-refused g p names z = ⊎-elim (λ t. omega (arith, t .0, z)) (λ t. omega (arith, t .0, z)) (row-or-entry g names)
+
+-- the same cases by other words for the sizes
+resized : {S T formed : Type 0} {fault : Given → Type 0} {good room : Bool} {p : Given} → (S → T) → (T → S) → Exactly S formed fault good room p → Exactly T formed fault good room p
+resized there back (all-right s f h r) = all-right (there s) f h r
+resized there back (wrong-sizes w) = wrong-sizes (λ t. w (back t))
+resized there back (faulty s n x) = faulty (there s) n x
+resized there back (wrong-argument s f h) = wrong-argument (there s) f h
+resized there back (full s f h r) = full (there s) f h r
+
+-- with the sizes of the slices that a call has beside the graph
+pub own-answers : (own : Bool) {good room : Bool} (g : Lent) (marks : List ℕ) (seen : CheckSeen)
+    → Answered (Sized g (length marks)) (WellFormed g) (Names (stages g)) good room (g .counts .rows) marks (seen .given) (seen .marks)
+    → Answers own good room g marks (cond own seen (record { given = badSizes; marks = marks }) .given) (cond own seen (record { given = badSizes; marks = marks }) .marks)
+own-answers true g marks seen a = record { exactly = resized (λ s. (refl, s)) (λ t. t .1) (a .exactly); untouched = a .untouched; zeroed = a .zeroed }
+own-answers false g marks seen a = record { exactly = wrong-sizes (λ t. false-true (t .0)); untouched = λ z. refl; zeroed = λ n. absurd (n refl) }
+
+-- ---- the check of two graphs
+pub two-refused : (a b : Lent) (p : Given) → FaultOfTwo a b p → p .number ≡ 0 → ⊥
+two-refused a b p (inl names) = names-refused a p names
+two-refused a b p (inr second) = names-refused b p (second .1)
+
+module _ (a b : Lent) (marks : List ℕ) where
+  abbrev two : Given
+  two = checkTwoCall a b marks .given
+
+  -- the sizes are right, or they are not
+  data Sizes : Type 0 where
+    right : SizedTwo a b (length marks) → Sizes
+    wrong : (SizedTwo a b (length marks) → ⊥) → Sizes
+
+  by-sizes : Sizes
+  by-sizes = go (sizesOfTwo a b (length marks)) refl
+    where
+      go : (t : Bool) → sizesOfTwo a b (length marks) ≡ t → Sizes
+      go true e = right (sized-two a b (length marks) e)
+      go false e = wrong (λ s. false-true (sym e ∙ both-true {a = sizesRight a (length marks)} (sizes-true a (length marks) (s .first)) (sizes-true b (length marks) (s .second))))
+
+  -- of two graphs of right sizes
+  judged-two : SizedTwo a b (length marks) → Exactly (SizedTwo a b (length marks)) (WellFormed a × WellFormed b) (FaultOfTwo a b) true true two
+  judged-two s = first (eqb (checkCall a marks .given .number) 0) refl
+    where
+      faults : (g : Lent) → Sized g (length marks) → eqb (checkCall g marks .given .number) 0 ≡ false → WellFormed g → ⊥
+      faults g z e w = eqb-false _ _ e (ap (λ (p : Given). p .number) (exact g marks .accepts z w))
+
+      second : WellFormed a → (t : Bool) → eqb (checkCall b marks .given .number) 0 ≡ t
+          → Exactly (SizedTwo a b (length marks)) (WellFormed a × WellFormed b) (FaultOfTwo a b) true true (checkCall b marks .given)
+      second w true e = let v = exact b marks .accepted (eqb-true _ _ e) .1 in rw (exact b marks .accepts (s .second) v) (all-right s (w, v) refl refl)
+      second w false e = let n = faults b (s .second) e in faulty s (λ both. n (both .1)) (inr (w, exact b marks .names (s .second) n))
+
+      first : (t : Bool) → eqb (checkCall a marks .given .number) 0 ≡ t → Exactly (SizedTwo a b (length marks)) (WellFormed a × WellFormed b) (FaultOfTwo a b) true true two
+      first true e =
+          let w = exact a marks .accepted (eqb-true _ _ e) .1 in
+          rw (exact-two a b marks .of-second s w) (second w (eqb (checkCall b marks .given .number) 0) refl)
+      first false e =
+          let n = faults a (s .first) e in
+          rw (exact-two a b marks .of-first s n) (faulty s (λ both. n (both .0)) (inl (exact a marks .names (s .first) n)))
+
+  pub check-two-answers : AnswersTwo true true a b marks two (checkTwoCall a b marks .marks)
+  check-two-answers = record { exactly = exactly by-sizes; untouched = exact-two a b marks .untouched; zeroed = zeroed by-sizes }
+    where
+      exactly : Sizes → Exactly (SizedTwo a b (length marks)) (WellFormed a × WellFormed b) (FaultOfTwo a b) true true two
+      exactly (right s) = judged-two s
+      exactly (wrong n) = rw (exact-two a b marks .refuses n) (wrong-sizes n)
+
+      zeroed : Sizes → (two .number ≡ 1 → ⊥) → checkTwoCall a b marks .marks ≡ cleared (larger (a .counts .rows) (b .counts .rows)) marks
+      zeroed (right s) h = exact-two a b marks .clear s
+      zeroed (wrong n) h = absurd (h (ap (λ (p : Given). p .number) (exact-two a b marks .refuses n)))

@@ -1,0 +1,60 @@
+-- `marked_run::seen::say_words` is safe and ends. The measure is the number of words that are left.
+-- Assumes nothing.
+use Prim.Native.Nat.{_-_, _≤_}
+use lib.ListN.{length}
+use borrow.Author.Needs.{needs}
+use Rattle.marked_run.proofs.seen.say_words.Statement.{statement}
+use Rattle.marked_run.proofs.seen.say_words.Tie as tie
+
+abbrev Inv-loop : tie.InvT-loop
+Inv-loop words i₀ t3 i-end i = i ≤ i-end
+
+abbrev μ-loop : tie.MeasureT-loop
+μ-loop words i₀ t3 i-end i = i-end - i
+
+loop-holds : tie.Need-loop-holds Inv-loop μ-loop
+loop-holds c = search needs
+
+slice-aggregate-write-all : tie.Need-slice-aggregate-write-all Inv-loop μ-loop
+slice-aggregate-write-all c = search needs
+
+write-all-requires : tie.Need-write-all-requires Inv-loop μ-loop
+write-all-requires c κs = search needs
+
+mul-say-word : tie.Need-mul-say-word Inv-loop μ-loop
+mul-say-word c = search needs
+
+shared-slice-read-say-word : tie.Need-shared-slice-read-say-word Inv-loop μ-loop
+shared-slice-read-say-word c = search needs
+
+say-word-requires : tie.Need-say-word-requires Inv-loop μ-loop
+say-word-requires c κs = search needs
+
+add-i : tie.Need-add-i Inv-loop μ-loop
+add-i c = search needs
+
+loop-less : tie.Need-loop-less Inv-loop μ-loop
+loop-less c = search needs
+
+loop-again : tie.Need-loop-again Inv-loop μ-loop
+loop-again c = search needs
+
+returns : tie.Need-returns Inv-loop μ-loop
+returns c = search needs
+
+pub say-words-spec : {M : Type 1} → statement M
+say-words-spec =
+    tie.close
+    (tie.spec
+    Inv-loop
+    μ-loop
+    loop-holds
+    slice-aggregate-write-all
+    write-all-requires
+    mul-say-word
+    shared-slice-read-say-word
+    say-word-requires
+    add-i
+    loop-less
+    loop-again
+    returns)
