@@ -16,7 +16,7 @@ use Rattle.build.specs.Leaves.{newLatchCall, addLatchCall}
 unfoldable pub latchPut : List ℕ → ℕ → Latch → List ℕ
 latchPut latches i l = cond (ltb i (latchesLent latches)) (latchSet latches i l) latches
 
--- whatever table of so many latches is lent: with the latch put in its place, the call is done
+-- whatever table of so many latches is lent: with the latch put in its place, what is seen is what the call promises, a refusal among it
 abbrev pub Places : Placed → List ℕ → ℕ → (List ℕ → Seen) → Type 0
 Places r rows lent call = (latches : List ℕ) → latchesLent latches ≡ lent → addedSeen (r .added) rows (latchPut latches (r .at) (r .latch)) ≡ call latches
 

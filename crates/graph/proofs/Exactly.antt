@@ -1,7 +1,8 @@
 -- The answers of a call are those of document 01's table, each exactly in its case: of the check itself, then with what a call looks at behind it.
 -- Assumes nothing.
-use Prim.Native.Nat.{ℕ}
+use Prim.Native.Nat.{ℕ, _≤_, _<_}
 use native.Mathlib.Omega.{arith}
+use native.Mathlib.Nat.{eq-or-lt-of-le}
 use mathlib.Core.Path.{_≡_, refl, sym, ap, _∙_}
 use mathlib.Core.Bool.{Bool, true, false, cond}
 use mathlib.Core.Logic.{inl, inr, ⊎-elim}
@@ -11,16 +12,18 @@ use lib.Dec.{eqb}
 use borrow.Author.Tests.{eqb-true, eqb-false}
 use Rattle.edge.specs.declared.answer.Given.{Given}
 use Rattle.edge.specs.Answers.{done, badSizes, badArgument, noRoom, orElse}
-use Rattle.edge.proofs.Tests.{both-true, false-true}
+use Rattle.edge.proofs.Tests.{both-true, false-true, lt-or-le}
 use Rattle.edge.proofs.Answers.{stops-here, goes-past}
 use Rattle.graph.specs.Graph.{Lent, Sized, sizesRight}
-use Rattle.graph.specs.Stages.{Names}
+use Rattle.graph.specs.Stages.{Stage, AllClean, Names}
+use Rattle.graph.specs.Stages.AllClean.{more}
+use Rattle.graph.specs.Stages.Names.{here, later}
 use Rattle.graph.specs.Check.{CheckSeen, cleared, stages, checkCall}
 use Rattle.graph.specs.WellFormed.{WellFormed}
 use Rattle.graph.specs.Exactly.{Exactly, all-right, wrong-sizes, faulty, wrong-argument, full, Answered, Answers, FaultOfTwo, AnswersTwo}
 use Rattle.graph.specs.Pair.{larger, sizesOfTwo, SizedTwo, checkTwoCall}
 use Rattle.graph.proofs.Checked.{sized}
-use Rattle.graph.proofs.WellFormed.{sizes-true, row-or-entry, exact}
+use Rattle.graph.proofs.WellFormed.{sizes-true, all-clean, row-or-entry, exact}
 use Rattle.graph.proofs.Pairing.{sized-two, exact-two}
 
 -- ---- behind an answer
@@ -164,3 +167,57 @@ module _ (a b : Lent) (marks : List ℕ) where
       zeroed : Sizes → (two .number ≡ 1 → ⊥) → checkTwoCall a b marks .marks ≡ cleared (larger (a .counts .rows) (b .counts .rows)) marks
       zeroed (right s) h = exact-two a b marks .clear s
       zeroed (wrong n) h = absurd (h (ap (λ (p : Given). p .number) (exact-two a b marks .refuses n)))
+
+-- ---- one case only: what holds of what is lent fixes the answer
+module _ {sizes formed : Type 0} {fault : Given → Type 0} (one-fault : sizes → (p q : Given) → fault p → fault q → p ≡ q) {good room : Bool} where
+  pub exactly-one : {p q : Given} → Exactly sizes formed fault good room p → Exactly sizes formed fault good room q → p ≡ q
+  exactly-one (all-right s f h r) (all-right s′ f′ h′ r′) = refl
+  exactly-one (all-right s f h r) (wrong-sizes w) = absurd (w s)
+  exactly-one (all-right s f h r) (faulty s′ n x) = absurd (n f)
+  exactly-one (all-right s f h r) (wrong-argument s′ f′ h′) = absurd (false-true (sym h′ ∙ h))
+  exactly-one (all-right s f h r) (full s′ f′ h′ r′) = absurd (false-true (sym r′ ∙ r))
+  exactly-one (wrong-sizes w) (all-right s f h r) = absurd (w s)
+  exactly-one (wrong-sizes w) (wrong-sizes w′) = refl
+  exactly-one (wrong-sizes w) (faulty s n x) = absurd (w s)
+  exactly-one (wrong-sizes w) (wrong-argument s f h) = absurd (w s)
+  exactly-one (wrong-sizes w) (full s f h r) = absurd (w s)
+  exactly-one (faulty s n x) (all-right s′ f h r) = absurd (n f)
+  exactly-one (faulty s n x) (wrong-sizes w) = absurd (w s)
+  exactly-one {p} {q} (faulty s n x) (faulty s′ n′ y) = one-fault s p q x y
+  exactly-one (faulty s n x) (wrong-argument s′ f h) = absurd (n f)
+  exactly-one (faulty s n x) (full s′ f h r) = absurd (n f)
+  exactly-one (wrong-argument s f h) (all-right s′ f′ h′ r) = absurd (false-true (sym h ∙ h′))
+  exactly-one (wrong-argument s f h) (wrong-sizes w) = absurd (w s)
+  exactly-one (wrong-argument s f h) (faulty s′ n x) = absurd (n f)
+  exactly-one (wrong-argument s f h) (wrong-argument s′ f′ h′) = refl
+  exactly-one (wrong-argument s f h) (full s′ f′ h′ r) = absurd (false-true (sym h ∙ h′))
+  exactly-one (full s f h r) (all-right s′ f′ h′ r′) = absurd (false-true (sym r ∙ r′))
+  exactly-one (full s f h r) (wrong-sizes w) = absurd (w s)
+  exactly-one (full s f h r) (faulty s′ n x) = absurd (n f)
+  exactly-one (full s f h r) (wrong-argument s′ f′ h′) = absurd (false-true (sym h′ ∙ h))
+  exactly-one (full s f h r) (full s′ f′ h′ r′) = refl
+
+-- a first fault is one
+first-of : (good : ℕ → Bool) (i j : ℕ) → good i ≡ false → ((k : ℕ) → k < i → good k ≡ true) → good j ≡ false → ((k : ℕ) → k < j → good k ≡ true) → i ≡ j
+first-of good i j b before c earlier =
+    ⊎-elim
+    (λ (l : i < j). absurd (false-true (sym b ∙ earlier i l)))
+    (λ (h : j ≤ i). ⊎-elim (λ (q : j ≡ i). sym q) (λ (l : j < i). absurd (false-true (sym c ∙ before j l))) (eq-or-lt-of-le h))
+    (lt-or-le i j)
+
+pub names-one : {ss : List Stage} (p q : Given) → Names ss p → Names ss q → p ≡ q
+names-one p q (here {s} i l b before) (here j m c earlier) = ap (s .bad) (first-of (s .good) i j b before c earlier)
+names-one p q (here i l b before) (later clean names) = absurd (false-true (sym b ∙ clean i l))
+names-one p q (later clean names) (here j m c earlier) = absurd (false-true (sym c ∙ clean j m))
+names-one p q (later clean names) (later also others) = names-one p q names others
+
+-- where the first graph is well-formed it has no fault
+no-fault : {ss : List Stage} {p : Given} → AllClean ss → Names ss p → ⊥
+no-fault (more c all) (here i l b before) = false-true (sym b ∙ c i l)
+no-fault (more c all) (later clean names) = no-fault all names
+
+pub two-one : (a b : Lent) (marks : ℕ) → SizedTwo a b marks → (p q : Given) → FaultOfTwo a b p → FaultOfTwo a b q → p ≡ q
+two-one a b marks s p q (inl x) (inl y) = names-one p q x y
+two-one a b marks s p q (inl x) (inr y) = absurd (no-fault (all-clean a marks (s .first) (y .0)) x)
+two-one a b marks s p q (inr x) (inl y) = absurd (no-fault (all-clean a marks (s .first) (x .0)) y)
+two-one a b marks s p q (inr x) (inr y) = names-one p q (x .1) (y .1)

@@ -166,7 +166,7 @@ module _ (g : Lent) (m : ℕ) (size : Sized g m) where
       no-edges : g .counts .sets ≡ 0 → ltb 0 (g .counts .sets) || eqb (g .counts .edges) 0 ≡ true → g .counts .edges ≡ 0
       no-edges e h = eqb-true (g .counts .edges) 0 (rw e at h)
 
-  all-clean : WellFormed g → AllClean (stages g)
+  pub all-clean : WellFormed g → AllClean (stages g)
   all-clean w =
       more (w .rows)
       (more input-good

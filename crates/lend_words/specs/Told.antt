@@ -27,7 +27,7 @@ toldSeen rows inputs latches constraints bads outputs ends edges fairness marks 
 abbrev pub toldGraph : Lent → List ℕ → List ℕ → ToldSeen
 toldGraph g marks told = toldSeen (g .rows) (g .inputs) (g .latches) (g .constraints) (g .bads) (g .outputs) (g .ends) (g .edges) (g .fairness) marks told
 
--- what a call leaves, told behind the words that were there
+-- what a call leaves, told over the first words that were lent; the others stay
 unfoldable pub toldOf : RebuiltSeen → List ℕ → ToldSeen
 toldOf s told = toldGraph (s .graph) (s .marks) (toldRebuilt told (s .given) (s .graph .counts))
 

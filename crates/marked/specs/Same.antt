@@ -1,4 +1,4 @@
--- Whether two rows of words are the same.
+-- Whether two lists of words are the same.
 -- Assumes nothing.
 use Prim.Native.Nat.{ℕ}
 use mathlib.Core.Path.{_≡_, refl, sym}

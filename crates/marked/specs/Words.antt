@@ -1,4 +1,4 @@
--- The table as one row of words, which the program reads.
+-- The table as one list of words, which the program reads.
 -- Assumes nothing.
 use Prim.Native.Nat.{ℕ}
 use mathlib.Core.List.{List, [], _∷_, _++_}

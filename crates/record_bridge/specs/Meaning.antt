@@ -1,4 +1,4 @@
--- What a reader wants of the bridge: it is the flat call, and it is the call on records.
+-- What a reader wants of the bridge: of latches that fill the tables it is the call on records, and with room the flat call.
 -- Assumes nothing.
 use Prim.Native.Nat.{ℕ}
 use mathlib.Core.Path.{_≡_}

@@ -17,7 +17,7 @@ abbrev pub mergeWith : List ℕ → List ℕ → List ℕ → List ℕ → List 
 mergeWith rows inputs constraints bads outputs ends edges fairness counts rows2 inputs2 constraints2 bads2 outputs2 ends2 edges2 fairness2 counts2 marks latches latches2 =
     mergeCall (lent rows inputs latches constraints bads outputs ends edges fairness counts) (lent rows2 inputs2 latches2 constraints2 bads2 outputs2 ends2 edges2 fairness2 counts2) marks
 
--- where the work words of either graph are too few: 1, and all is as it was
+-- where the work words of either graph are too few: 1, and the graph and the marks are as they were
 abbrev pub mergeRefused : List ℕ → List ℕ → List ℕ → List ℕ → List ℕ → List ℕ → List ℕ → List ℕ → Counts → List ℕ → List ℕ → RebuiltSeen
 mergeRefused rows inputs constraints bads outputs ends edges fairness counts marks latches = record { given = badSizes; graph = lent rows inputs latches constraints bads outputs ends edges fairness counts; marks = marks }
 

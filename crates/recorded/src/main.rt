@@ -1,5 +1,5 @@
 // Graphs with latches, three frames each: unrolled through tables of latch records and, beside it, by the flat call. After each frame the nexts
-// are read back and printed, and every word of both is compared.
+// are read back and printed, and the answers, counts, rows, inputs and latches of both are compared.
 mod graphs;
 mod ways;
 mod words;

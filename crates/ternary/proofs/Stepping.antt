@@ -20,7 +20,7 @@ use Rattle.ternary.proofs.Answering.{accepts, accepted, answers, run-lo
 use Rattle.ternary.proofs.Ruling.{leafCodes}
 
 pub run-right : (g : Lent) (input state values marks : List ℕ) → RunRight g input state values marks
-run-right g input state values marks = record { accepted = accepted g input state values marks; accepts = accepts g input state values marks; answers = answers g input state values marks }
+run-right g input state values marks = record { accepted = accepted g input state values marks; accepts = accepts g input state values marks; answers = answers g input state values marks; step-answers = unfold stepCall in answers g input state values marks }
 
 -- ---- what a step leaves is good for the next
 module _ (g : Lent) (input state values marks : List ℕ) (a : Accepted g input state values marks) where

@@ -17,15 +17,16 @@ use Rattle.graph.specs.Check.{cleared}
 use Rattle.graph.specs.Exactly.{Answers}
 use Rattle.ternary.specs.Codes.{unknown, and3, edge3, Codes}
 use Rattle.ternary.specs.Run.{inputRow, latchRow, nextRow, run, next, stateAt, frame}
-use Rattle.ternary.specs.Calls.{argumentsRight, written, runCall, Accepted, stepCalls}
+use Rattle.ternary.specs.Calls.{argumentsRight, written, runCall, Accepted, stepCall, stepCalls}
 
 -- ---- when it is done, and what then
 -- the run is done exactly where everything is as it must be, and then it writes the codes
 pub record RunRight (g : Lent) (input state values marks : List ℕ) : Type 0 where
   pub accepted : runCall g input state values marks .given .number ≡ 0 → Accepted g input state values marks
   pub accepts : Accepted g input state values marks → runCall g input state values marks ≡ record { given = done; values = written g input state values; marks = cleared (g .counts .rows) marks }
-  -- each answer exactly in its case, and the marks
+  -- each answer exactly in its case, and the marks; of the step too
   pub answers : Answers (leb (g .counts .rows) (length values)) (argumentsRight (g .counts .inputs) (g .counts .latches) input state) true g marks (runCall g input state values marks .given) (runCall g input state values marks .marks)
+  pub step-answers : Answers (leb (g .counts .rows) (length values)) (argumentsRight (g .counts .inputs) (g .counts .latches) input state) true g marks (stepCall g input state values marks .given) (stepCall g input state values marks .marks)
 
 -- ---- the rules
 -- inputs or latches list row x; "a leaf in neither list is an orphan"

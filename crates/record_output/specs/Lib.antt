@@ -1,0 +1,5 @@
+pub mod Moving
+pub mod Numbering
+pub mod Refining
+pub mod Same
+pub mod Unrolling
