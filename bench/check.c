@@ -1,20 +1,16 @@
 /* Lends a large graph to `check`, and says how long it takes: the time is to grow with the rows, and no faster. */
-#include <stdint.h>
+#include "sulandiro.h"
+
+#include <inttypes.h>
 #include <stdio.h>
 #include <stdlib.h>
 #include <string.h>
 #include <time.h>
 
-typedef const uint32_t *words;
-uint8_t sulandiro_check(words rows, size_t rows_len, words inputs, size_t inputs_len, words latches, size_t latches_len, words constraints,
-                        size_t constraints_len, words bads, size_t bads_len, words outputs, size_t outputs_len, words ends, size_t ends_len,
-                        words edges, size_t edges_len, words fairness, size_t fairness_len, size_t used, size_t n_inputs, size_t n_latches,
-                        size_t n_constraints, size_t n_bads, size_t n_outputs, size_t n_sets, size_t n_edges, size_t n_fairness, uint32_t *marks,
-                        size_t marks_len);
-
-enum { MAX_ROWS = 1048576, LEAVES_EVERY = 16, RUNS = 7 };
+enum { MAX_ROWS = SULANDIRO_MAX_ROWS, LEAVES_EVERY = 16, RUNS = 7, TOLD = SULANDIRO_SECOND + 1 };
 
 static uint32_t *rows, *marks, *inputs, *bads;
+static uint64_t told[TOLD];
 
 static uint64_t seed = 1;
 static uint32_t below(uint32_t n) {
@@ -44,9 +40,10 @@ static size_t listed(size_t n) {
     return k;
 }
 
-static unsigned check(size_t lent, size_t used, size_t k) {
-    return sulandiro_check(rows, 2 * lent, inputs, k, NULL, 0, NULL, 0, bads, k, NULL, 0, NULL, 0, NULL, 0, NULL, 0, used, k, 0, 0, k, 0, 0, 0, 0, marks,
-                           used);
+static void check(size_t lent, size_t used, size_t k) {
+    const uint64_t counts[SULANDIRO_COUNTS] = {[SULANDIRO_ROWS] = used, [SULANDIRO_INPUTS] = k, [SULANDIRO_BADS] = k};
+    sulandiro_check(rows, 2 * lent, inputs, k, NULL, 0, NULL, 0, bads, k, NULL, 0, NULL, 0, NULL, 0, NULL, 0, counts, SULANDIRO_COUNTS, marks, used,
+                    told, TOLD);
 }
 
 static double seconds(void) {
@@ -60,10 +57,10 @@ static double timed(size_t n, size_t k) {
     double least = 1e9;
     for (int r = 0; r < RUNS; r++) {
         double from = seconds();
-        unsigned answer = check(n, n, k);
+        check(n, n, k);
         double took = seconds() - from;
-        if (answer != 0) {
-            printf("check of %zu rows: answer %u\n", n, answer);
+        if (told[SULANDIRO_NUMBER] != SULANDIRO_DONE) {
+            printf("check of %zu rows: answer %" PRIu64 "\n", n, told[SULANDIRO_NUMBER]);
             exit(1);
         }
         least = took < least ? took : least;
@@ -72,9 +69,11 @@ static double timed(size_t n, size_t k) {
     return least * 1e9 / (double)n;
 }
 
-static void expect(const char *what, unsigned answer, unsigned want) {
-    printf("%s: answer %u\n", what, answer);
-    if (answer != want) exit(1);
+static void expect(const char *what, uint64_t number, uint64_t place, uint64_t index) {
+    const uint64_t wanted[TOLD] = {number, place, index, 0};
+    printf("%s: answer %" PRIu64 ", place %" PRIu64 " %" PRIu64 " %" PRIu64 "\n", what, told[SULANDIRO_NUMBER], told[SULANDIRO_PLACE],
+           told[SULANDIRO_INDEX], told[SULANDIRO_SECOND]);
+    if (memcmp(told, wanted, sizeof told) != 0) exit(1);
 }
 
 int main(void) {
@@ -94,13 +93,16 @@ int main(void) {
     size_t k = listed(MAX_ROWS);
     for (size_t i = 0; i < MAX_ROWS; i++)
         if (marks[i] != 0) return 1;
-    expect("one lent row too many", check(MAX_ROWS + 1, MAX_ROWS, k), 1);
+    check(MAX_ROWS + 1, MAX_ROWS, k);
+    expect("one lent row too many", SULANDIRO_BAD_SIZES, 0, 0);
     uint32_t kept = rows[2 * MAX_ROWS - 1];
     rows[2 * MAX_ROWS - 1] = 2 * MAX_ROWS - 2;
-    expect("the last row reads itself", check(MAX_ROWS, MAX_ROWS, k), 2);
+    check(MAX_ROWS, MAX_ROWS, k);
+    expect("the last row reads itself", SULANDIRO_BAD_ROW, MAX_ROWS - 1, 0);
     rows[2 * MAX_ROWS - 1] = kept;
     bads[k - 1] = 2 * MAX_ROWS;
-    expect("the last bad is not used", check(MAX_ROWS, MAX_ROWS, k), 3);
+    check(MAX_ROWS, MAX_ROWS, k);
+    expect("the last bad is not used", SULANDIRO_BAD_ENTRY, 4, k - 1);
     if (4 * small < large) {
         printf("a row takes %.1f times as long in the largest graph as in the smallest\n", large / small);
         return 1;

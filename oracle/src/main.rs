@@ -19,6 +19,7 @@ mod shapes;
 mod shrink;
 mod solve;
 mod tables;
+mod times;
 mod wellformed;
 
 use calls::Call;
@@ -35,7 +36,8 @@ oracle exhaust EVERY FOLDER PROGRAM [ARGUMENT]...
 oracle frames COUNT SEED FOLDER PROGRAM [ARGUMENT]...
 oracle solve COUNT SEED SOLVER FOLDER PROGRAM [ARGUMENT]...
 oracle sample write CALLS FOLDER
-oracle sample check CALLS FOLDER";
+oracle sample check CALLS FOLDER
+oracle times CALL";
 
 fn main() -> ExitCode {
     let arguments: Vec<OsString> = std::env::args_os().skip(1).collect();
@@ -95,6 +97,7 @@ fn run(arguments: &[OsString]) -> Option<io::Result<bool>> {
                 _ => None,
             }
         }
+        ["times", call] => Some(times::times(call, io::stdin().lock())),
         _ => None,
     }
 }

@@ -1,6 +1,6 @@
 -- Laws of the call: its steps, and what it answers and writes.
 -- Assumes nothing.
-use Prim.Native.Nat.{ℕ, _+_, _≤_, _<_}
+use Prim.Native.Nat.{ℕ, _+_, _-_, _*_, _≤_}
 use native.Mathlib.Omega.{arith}
 use mathlib.Core.Path.{_≡_, refl, sym, ap, _∙_}
 use mathlib.Core.Bool.{Bool, true, false, cond, not}
@@ -8,7 +8,7 @@ use mathlib.Core.List.{List, [], _∷_, _++_}
 use lib.ListN.{length, take, drop, replicate, take-append-drop, length-append, length-replicate}
 use lib.Seq.{sets, sets-eq, take-at}
 use lib.Dec.{eqb, leb}
-use borrow.Author.Tests.{eqb-true, le-leb, lt-leb}
+use borrow.Author.Tests.{eqb-true, le-leb, leb-true, not-true, not-false}
 use Rattle.edge.specs.declared.answer.Answer.{Answer}
 use Rattle.edge.specs.declared.answer.Answer.the-variants.{Done, NoRoom}
 use Rattle.edge.specs.Answers.{done, noRoom, told, orElse}
@@ -22,10 +22,11 @@ use Rattle.roots.specs.Roots.{RootsFit, rootsOf}
 use Rattle.roots.proofs.Flagging.{cleared-all}
 use Rattle.roots.proofs.Marking.{edges-long}
 use Rattle.roots.proofs.Roots.{roots-known}
-use Rattle.shapes.specs.Shapes.{unit, words}
+use Rattle.shapes.specs.Shapes.{unit, words, WrittenIfRoom}
 use Rattle.cnf.specs.Clauses.{walk, clausesIn, cnfOf}
 use Rattle.cnf.specs.Call.{cnfAnswer, cnfSeen, writtenOver, cnfCall, Ready}
 use Rattle.shapes.proofs.Writing.{sets-both}
+use Rattle.cnf.proofs.Decoding.{clauses-most}
 
 -- a run of stores from the start
 pub sets-over : (l ws : List ℕ) → length ws ≤ length l → sets l 0 ws ≡ writtenOver ws l
@@ -47,19 +48,26 @@ module _ (shortcuts : Bool) (rows roots marks : List ℕ) (r : Ready rows (lengt
   unfolding rest clausesIn words
   whole = rw (marked-long, started)
 
-  pub number : {n : ℕ} → n ≡ length (words (walk shortcuts rows (length marked) marked)) → 2 + n ≡ length (words (clausesIn shortcuts rows (length marks) roots))
+  pub number : {n : ℕ} → n ≡ 2 + length (words (walk shortcuts rows (length marked) marked)) → n ≡ length (words (clausesIn shortcuts rows (length marks) roots))
   unfolding rest
-  number e = omega (arith, ap length whole)
+  number e = omega (arith, e, ap length whole)
 
-  pub written : (clauses : List ℕ) {one two : List ℕ} → length (words (clausesIn shortcuts rows (length marks) roots)) ≤ length clauses
-      → one ≡ sets clauses 0 (words (unit ∷ [])) → two ≡ sets one 2 (words (walk shortcuts rows (length marked) marked))
-      → two ≡ writtenOver (words (clausesIn shortcuts rows (length marks) roots)) clauses
+  pub written : (clauses : List ℕ) {one two : List ℕ} → WrittenIfRoom clauses 0 (words (unit ∷ [])) one → length one ≡ length clauses
+      → WrittenIfRoom one 2 (words (walk shortcuts rows (length marked) marked)) two
+      → WrittenIfRoom clauses 0 (words (clausesIn shortcuts rows (length marks) roots)) two
   unfolding rest words
-  written clauses h a b = b ∙ (rw a (sym (sets-both clauses (1 ∷ 1 ∷ []) rest 0)) ∙ (ap (sets clauses 0) (sym whole) ∙ sets-over clauses (words (clausesIn shortcuts rows (length marks) roots)) h))
+  written clauses a l b h =
+      let n : length (words (clausesIn shortcuts rows (length marks) roots)) ≡ 2 + length rest = omega (arith, ap length whole) in
+      b (omega (arith, n, l, h)) ∙ (rw (a (omega (arith, n, h))) (sym (sets-both clauses (1 ∷ 1 ∷ []) rest 0)) ∙ ap (sets clauses 0) (sym whole))
 
   -- the marks are as before
   pub back : (walked : List ℕ) {after : List ℕ} → length walked ≡ length marked → after ≡ cleared (length walked) walked → after ≡ marks
   back walked l e = e ∙ (cleared-all walked (length walked) refl ∙ (ap (λ (n : ℕ). replicate n 0) (l ∙ marked-long) ∙ sym (r .clear)))
+
+-- ---- where there is room for the most that there can be, there is room
+module _ (shortcuts : Bool) (rows roots marks : List ℕ) (room : ℕ) where
+  pub room-for-most : Ready rows (length marks) roots marks → 2 + 16 * (length marks - 1) ≤ room → true ≡ leb (length (words (clausesIn shortcuts rows (length marks) roots))) room
+  room-for-most r l = sym (le-leb (length (words (clausesIn shortcuts rows (length marks) roots))) room (omega (arith, l, clauses-most shortcuts rows (length marks) roots (r .some-row))))
 
 -- ---- the call, where the check has answered a and left the marks `after`, and d says whether it is done
 module _ (g : Lent) (shortcuts : Bool) (clauses marks : List ℕ) (a : Answer) {after : List ℕ} (seen : checkSeen a after ≡ checkCall g marks) {d : Bool} (test : d ≡ eqb (told a .number) 0) where
@@ -104,6 +112,7 @@ module _ (g : Lent) (shortcuts : Bool) (clauses marks : List ℕ) (a : Answer) {
         let s = right .0 in
         rw part-long
         (record {
+          some-row = s .rows .some;
           rows-there = omega (arith, s .rows .fit .within);
           rows-few = omega (arith, s .rows .fit .within, s .rows .fit .limited);
           roots-used = roots-known g (length marks) s (right .1) .used;
@@ -127,24 +136,27 @@ module _ (g : Lent) (shortcuts : Bool) (clauses marks : List ℕ) (a : Answer) {
       pub again-ready : Ready (g .rows) (length (take used again)) (rootsOf g) (take used again)
       again-ready = rw put-back ready
 
-      module _ {need : ℕ} (counted : need ≡ length (words (clausesIn shortcuts (g .rows) (length (take used after)) (rootsOf g)))) where
-        need-is : need ≡ length (words (cnfOf shortcuts g))
-        need-is = counted ∙ ap (λ (n : ℕ). length (words (clausesIn shortcuts (g .rows) n (rootsOf g)))) part-long
+      abbrev ws : List ℕ
+      ws = words (cnfOf shortcuts g)
 
-        answer-is : cnfAnswer g shortcuts (length clauses) marks ≡ cond (leb (length (words (cnfOf shortcuts g))) (length clauses)) done noRoom
-        unfolding cnfAnswer
-        answer-is = goes-past (checkCall g marks .given) (cond (leb (length (words (cnfOf shortcuts g))) (length clauses)) done noRoom) zero-number
+      answer-is : cnfAnswer g shortcuts (length clauses) marks ≡ cond (leb (length ws) (length clauses)) done noRoom
+      unfolding cnfAnswer
+      answer-is = goes-past (checkCall g marks .given) (cond (leb (length ws) (length clauses)) done noRoom) zero-number
 
-        pub cnf-short : length clauses < need → cnfSeen (record { answer = NoRoom; words = 0 }) clauses again ≡ cnfCall g shortcuts clauses marks
+      -- f says whether there is room
+      module _ {f : Bool} (asked : f ≡ leb (length (words (clausesIn shortcuts (g .rows) (length (take used after)) (rootsOf g)))) (length clauses)) where
+        fits-is : leb (length ws) (length clauses) ≡ f
+        fits-is = sym (rw part-long at asked)
+
+        pub cnf-short : not f ≡ true → cnfSeen (record { answer = NoRoom; words = 0 }) clauses again ≡ cnfCall g shortcuts clauses marks
         unfolding cnfCall
-        cnf-short l = rw (put-back, answer-is, lt-leb (length (words (cnfOf shortcuts g))) (length clauses) (omega (arith, need-is)), kept)
+        cnf-short l = rw (put-back, answer-is, fits-is, not-true f l, kept)
 
-        module _ (fits : need ≤ length clauses) where
-          pub again-fits : length (words (clausesIn shortcuts (g .rows) (length (take used again)) (rootsOf g))) ≤ length clauses
-          again-fits = rw again-part (omega (arith, need-is))
-
-          pub cnf-done : {part′ out : List ℕ} → part′ ≡ take used again → out ≡ writtenOver (words (clausesIn shortcuts (g .rows) (length (take used again)) (rootsOf g))) clauses
-              → cnfSeen (record { answer = Done; words = need }) out (part′ ++ drop used again) ≡ cnfCall g shortcuts clauses marks
-          unfolding cnfCall
-          cnf-done p w =
-              rw (answer-is, le-leb (length (words (cnfOf shortcuts g))) (length clauses) (omega (arith, need-is)), w, again-part, need-is, p, take-append-drop used again, put-back, kept)
+        pub cnf-done : not f ≡ false → {n : ℕ} {part′ out : List ℕ} → n ≡ length (words (clausesIn shortcuts (g .rows) (length (take used again)) (rootsOf g)))
+            → part′ ≡ take used again → WrittenIfRoom clauses 0 (words (clausesIn shortcuts (g .rows) (length (take used again)) (rootsOf g))) out
+            → cnfSeen (record { answer = Done; words = n }) out (part′ ++ drop used again) ≡ cnfCall g shortcuts clauses marks
+        unfolding cnfCall
+        cnf-done l e p w =
+            let room : length ws ≤ length clauses = leb-true (length ws) (length clauses) (fits-is ∙ not-false f l) in
+            let all : WrittenIfRoom clauses 0 ws _ = rw again-part at w in
+            rw (answer-is, fits-is, not-false f l, all (omega (arith, room)), sets-over clauses ws room, e, again-part, p, take-append-drop used again, put-back, kept)

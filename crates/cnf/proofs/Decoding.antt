@@ -1,6 +1,6 @@
 -- Clauses read back from their words are the clauses; and how many words there are.
 -- Assumes nothing.
-use Prim.Native.Nat.{ℕ, zero, suc, _+_, _*_, _≤_}
+use Prim.Native.Nat.{ℕ, zero, suc, _+_, _-_, _*_, _≤_, _<_}
 use native.Mathlib.Omega.{arith}
 use mathlib.Core.Bool.{Bool, true, false, cond, _&&_}
 use mathlib.Core.Path.{_≡_, refl, sym, ap, ap₂, _∙_}
@@ -9,6 +9,7 @@ use lib.ListN.{length, getD, replicate, length-append}
 use lib.Seq.{take-append-seam, drop-append-seam}
 use lib.Dec.{eqb}
 use Rattle.rows.specs.Rows.{word0, word1, gateAt}
+use Rattle.rows.proofs.Laws.{gate-below}
 use Rattle.roots.specs.Marking.{markEdges}
 use Rattle.shapes.specs.declared.Shape.{Shape}
 use Rattle.shapes.specs.declared.Shape.the-variants.{Unwritten, Plain, Xor, Ite}
@@ -39,14 +40,7 @@ unfolding words
 words-both [] ds = refl
 words-both (c ∷ cs) ds = ap (λ (ws : List ℕ). length c ∷ ws) (rw (words-both cs ds) (sym (append-assoc c (words cs) (words ds))))
 
--- a gate's clauses are at most 16 words, and the gate's literal does not matter
-pub same-size : (g : ℕ) (s : Shape) → length (words (clausesOf g s)) ≡ length (words (clausesOf 0 s))
-unfolding words clausesOf
-same-size g Unwritten = refl
-same-size g (Plain a b) = refl
-same-size g (Xor a b) = refl
-same-size g (Ite c t e) = refl
-
+-- a gate's clauses are at most 16 words
 pub at-most-16 : (g : ℕ) (s : Shape) → length (words (clausesOf g s)) ≤ 16
 unfolding words clausesOf
 at-most-16 g Unwritten = omega arith
@@ -77,3 +71,24 @@ walk-few shortcuts rows (suc i) marks =
 pub clauses-few : (shortcuts : Bool) (rows : List ℕ) (used : ℕ) (roots : List ℕ) → length (words (clausesIn shortcuts rows used roots)) ≤ 2 + 16 * gatesBelow rows used
 unfolding clausesIn words
 clauses-few shortcuts rows used roots = omega (arith, walk-few shortcuts rows used (markEdges roots (replicate used 0)))
+
+-- ---- row 0 is no gate
+row-0 : (rows : List ℕ) → gateAt rows 0 ≡ false
+row-0 rows = go (gateAt rows 0) refl
+  where
+    go : (t : Bool) → gateAt rows 0 ≡ t → t ≡ false
+    go true e = let l = gate-below 0 (word0 rows 0) (word1 rows 0) e in absurd (omega (arith, l .0))
+    go false e = refl
+
+gates-below : (rows : List ℕ) (n : ℕ) → gatesBelow rows (suc n) ≤ n
+unfolding countBelow
+gates-below rows zero = rw (row-0 rows) (omega arith)
+gates-below rows (suc n) = go (gateAt rows (suc n)) (gates-below rows n)
+  where
+    go : (t : Bool) → gatesBelow rows (suc n) ≤ n → cond t (gatesBelow rows (suc n) + 1) (gatesBelow rows (suc n)) ≤ suc n
+    go true h = omega arith
+    go false h = omega arith
+
+pub clauses-most : (shortcuts : Bool) (rows : List ℕ) (used : ℕ) (roots : List ℕ) → 0 < used → length (words (clausesIn shortcuts rows used roots)) ≤ 2 + 16 * (used - 1)
+clauses-most shortcuts rows zero roots l = absurd (omega arith)
+clauses-most shortcuts rows (suc n) roots l = omega (arith, clauses-few shortcuts rows (suc n) roots, gates-below rows n)

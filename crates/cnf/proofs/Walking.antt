@@ -20,11 +20,11 @@ use Rattle.roots.proofs.Arguments.{every-at, at-every}
 use Rattle.roots.proofs.Marking.{edges-long}
 use Rattle.shapes.specs.declared.Shape.{Shape}
 use Rattle.shapes.specs.declared.Shape.the-variants.{Unwritten, Plain, Xor, Ite}
-use Rattle.shapes.specs.Shapes.{shapeOf, operands, clausesOf, words}
+use Rattle.shapes.specs.Shapes.{shapeOf, operands, clausesOf, words, WrittenIfRoom}
 use Rattle.cnf.specs.Clauses.{writtenAt, walk}
 use Rattle.cnf.proofs.Fitting.{shape-fits}
 use Rattle.graph.proofs.Counting.{count-within}
-use Rattle.cnf.proofs.Decoding.{words-both, same-size, walk-few}
+use Rattle.cnf.proofs.Decoding.{words-both, walk-few}
 use Rattle.shapes.proofs.Writing.{sets-both}
 
 -- ---- the operands of a shape, edge by edge
@@ -109,8 +109,8 @@ module _ (shortcuts : Bool) (rows : List ℕ) where
   unfolding walk words
   left-end i marks l = let e : i ≡ 0 = omega arith in rw e
 
-  pub count-end : (i : ℕ) (marks : List ℕ) → i ≤ 0 → (n : ℕ) {total : ℕ} → n + length (wordsLeft shortcuts rows i marks) ≡ total → n ≡ total
-  count-end i marks l n h = omega (arith, ap length (left-end i marks l))
+  pub place-end : (i : ℕ) (marks : List ℕ) → i ≤ 0 → (n : ℕ) {total : ℕ} → n + length (wordsLeft shortcuts rows i marks) ≡ total → n ≡ total
+  place-end i marks l n h = omega (arith, ap length (left-end i marks l))
 
   pub write-end : (i : ℕ) (marks : List ℕ) → i ≤ 0 → (out : List ℕ) (at : ℕ) {whole : List ℕ} → sets out at (wordsLeft shortcuts rows i marks) ≡ whole → out ≡ whole
   write-end i marks l out at h = rw (left-end i marks l) at h
@@ -127,23 +127,16 @@ module _ (shortcuts : Bool) (rows : List ℕ) where
         let d : i ≡ suc (i - 1) = omega arith in
         ap (λ (k : ℕ). wordsLeft shortcuts rows k marks) d ∙ (words-both (clausesOf (2 * (i - 1)) (writtenAt shortcuts rows (i - 1) marks)) (walk shortcuts rows (i - 1) (markEdges (operands (writtenAt shortcuts rows (i - 1) marks)) marks)) ∙ rw e)
 
-    pub left-size : length (wordsLeft shortcuts rows i marks) ≡ length (words (clausesOf 0 s)) + length (wordsLeft shortcuts rows (i - 1) (markEdges (operands s) marks))
-    left-size = ap length left-turn ∙ (length-append (words (clausesOf (2 * (i - 1)) s)) _ ∙ ap (λ (k : ℕ). k + length (wordsLeft shortcuts rows (i - 1) (markEdges (operands s) marks))) (same-size (2 * (i - 1)) s))
+    pub left-size : length (wordsLeft shortcuts rows i marks) ≡ length (words (clausesOf (2 * (i - 1)) s)) + length (wordsLeft shortcuts rows (i - 1) (markEdges (operands s) marks))
+    left-size = ap length left-turn ∙ length-append (words (clausesOf (2 * (i - 1)) s)) _
 
-    -- the clauses of row i - 1 are written, and the others after them
-    pub left-sets : (out : List ℕ) (at : ℕ) {next : List ℕ} → next ≡ sets out at (words (clausesOf (2 * (i - 1)) s))
-        → sets next (at + length (words (clausesOf 0 s))) (wordsLeft shortcuts rows (i - 1) (markEdges (operands s) marks)) ≡ sets out at (wordsLeft shortcuts rows i marks)
-    left-sets out at p = rw (p, ← (same-size (2 * (i - 1)) s), left-turn) (sym (sets-both out (words (clausesOf (2 * (i - 1)) s)) _ at))
+    -- ---- the loop: the clauses of row i - 1 are written, and the others after them
+    module _ {after : List ℕ} (at : ℕ) {end : ℕ} (marked : after ≡ markEdges (operands s) marks) (behind : end ≡ at + length (words (clausesOf (2 * (i - 1)) s))) where
+      pub place-turn : {total : ℕ} → at + length (wordsLeft shortcuts rows i marks) ≡ total → end + length (wordsLeft shortcuts rows (i - 1) after) ≡ total
+      place-turn h = rw marked (omega (arith, left-size))
 
-    -- ---- the loops: k words are added to what stands before
-    module _ {after : List ℕ} {k : ℕ} (marked : after ≡ markEdges (operands s) marks) (added : k ≡ length (words (clausesOf 0 s))) where
-      pub count-turn : (n : ℕ) {total : ℕ} → n + length (wordsLeft shortcuts rows i marks) ≡ total → n + k + length (wordsLeft shortcuts rows (i - 1) after) ≡ total
-      count-turn n h = rw marked (omega (arith, left-size))
-
-      pub write-turn : (out : List ℕ) (at : ℕ) {next whole : List ℕ} → next ≡ sets out at (words (clausesOf (2 * (i - 1)) s)) → sets out at (wordsLeft shortcuts rows i marks) ≡ whole
-          → sets next (at + k) (wordsLeft shortcuts rows (i - 1) after) ≡ whole
-      write-turn out at p h = rw (marked, added) (left-sets out at p ∙ h)
-
-    -- the row's words are among those left
-    pub row-fits : length (words (clausesOf (2 * (i - 1)) s)) ≤ length (wordsLeft shortcuts rows i marks)
-    row-fits = omega (arith, left-size, same-size (2 * (i - 1)) s)
+      pub write-turn : (out : List ℕ) {next whole : List ℕ} → WrittenIfRoom out at (words (clausesOf (2 * (i - 1)) s)) next → at + length (wordsLeft shortcuts rows i marks) ≤ length out
+          → sets out at (wordsLeft shortcuts rows i marks) ≡ whole → sets next end (wordsLeft shortcuts rows (i - 1) after) ≡ whole
+      write-turn out p room h =
+          rw (marked, behind, p (omega (arith, left-size)))
+          (sym (sets-both out (words (clausesOf (2 * (i - 1)) s)) (wordsLeft shortcuts rows (i - 1) (markEdges (operands s) marks)) at) ∙ (ap (sets out at) (sym left-turn) ∙ h))

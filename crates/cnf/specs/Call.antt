@@ -1,6 +1,6 @@
 -- What `cnf` answers and writes.
 -- Assumes nothing.
-use Prim.Native.Nat.{ℕ, _*_, _≤_}
+use Prim.Native.Nat.{ℕ, _*_, _≤_, _<_}
 use mathlib.Core.Path.{_≡_, ap}
 use mathlib.Core.List.{List, _++_}
 use mathlib.Core.Bool.{Bool, true, cond}
@@ -49,6 +49,7 @@ cnfCall g shortcuts clauses marks =
 
 -- what the steps of the call are lent, once the graph is checked: the rows and roots are there, and the marks are 0
 pub record Ready (rows : List ℕ) (used : ℕ) (roots marks : List ℕ) : Type 0 where
+  pub some-row : 0 < used
   pub rows-there : 2 * used ≤ length rows
   pub rows-few : used ≤ maxRows
   pub roots-used : every (usedEdge used) roots ≡ true

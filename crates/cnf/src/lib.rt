@@ -2,20 +2,19 @@
 mod walk;
 
 ghost use mathlib.Core.Path.{_≡_};
-ghost use Prim.Native.Nat.{_≤_};
 ghost use lib.ListN.{length};
+ghost use lib.Dec.{leb};
 ghost use Rattle.graph.specs.Graph.{lent};
 ghost use Rattle.roots.specs.Roots.{RootsFit, rootsIn};
-ghost use Rattle.shapes.specs.Shapes.{words};
+ghost use Rattle.shapes.specs.Shapes.{words, WrittenIfRoom};
 ghost use Rattle.cnf.specs.Clauses.{clausesIn};
-ghost use Rattle.cnf.specs.Call.{Ready, writtenOver, cnfSeen, cnfCall};
+ghost use Rattle.cnf.specs.Call.{Ready, cnfSeen, cnfCall};
 use edge::Answer;
 use graph::Counts;
 use graph::marks::clear;
 use roots::mark_roots;
 use shapes::put::put_unit;
-use walk::count;
-use walk::write;
+use walk::put_rows;
 
 // An answer, and how many words of clauses were written: 0 where it is refused.
 pub struct ClausesAnswer {
@@ -23,45 +22,8 @@ pub struct ClausesAnswer {
     pub words: usize,
 }
 
-// How many words the clauses take, with the unit clause. The marks are 0 before and after.
-fn words_needed(
-    rows: &[u32],
-    latches: &[u32],
-    constraints: &[u32],
-    bads: &[u32],
-    outputs: &[u32],
-    edges: &[u32],
-    fairness: &[u32],
-    counts: Counts,
-    shortcuts: bool,
-    marks: &mut [u32],
-) -> usize
-    requires { ⌜ RootsFit (now latches) (now constraints) (now bads) (now outputs) (now edges) (now fairness) counts ⌝ }
-    requires { ⌜ Ready (now rows) (length (now marks)) (rootsIn (now latches) (now constraints) (now bads) (now outputs) (now edges) (now fairness) counts) (now marks) ⌝ }
-    ensures number { λ r. ⌜
-        r
-        ≡ length (words (clausesIn shortcuts (now (rows .entry)) (length (now (marks .entry))) (rootsIn (now (latches .entry)) (now (constraints .entry)) (now (bads .entry)) (now (outputs .entry)) (now (edges .entry)) (now (fairness .entry)) counts)))
-        ⌝ }
-    ensures kept { λ _. ⌜ now (marks .exit) ≡ now (marks .entry) ⌝ }
-{
-    mark_roots(
-        latches,
-        constraints,
-        bads,
-        outputs,
-        edges,
-        fairness,
-        counts,
-        marks,
-    );
-    let n = count(shortcuts, rows, marks);
-    let used = marks.len();
-    clear(marks, used);
-    2 + n
-}
-
-// The clauses, the unit clause first. The marks are 0 before and after.
-fn write_words(
+// The clauses, the unit clause first, where there is room for them. How many words they are, whether they are written or not. The marks are 0 before and after.
+fn put_words(
     rows: &[u32],
     latches: &[u32],
     constraints: &[u32],
@@ -73,13 +35,17 @@ fn write_words(
     shortcuts: bool,
     clauses: &mut [u32],
     marks: &mut [u32],
-)
+) -> usize
     requires { ⌜ RootsFit (now latches) (now constraints) (now bads) (now outputs) (now edges) (now fairness) counts ⌝ }
     requires { ⌜ Ready (now rows) (length (now marks)) (rootsIn (now latches) (now constraints) (now bads) (now outputs) (now edges) (now fairness) counts) (now marks) ⌝ }
-    requires { ⌜ length (words (clausesIn shortcuts (now rows) (length (now marks)) (rootsIn (now latches) (now constraints) (now bads) (now outputs) (now edges) (now fairness) counts))) ≤ length (now clauses) ⌝ }
+    ensures number { λ r. ⌜
+        r
+        ≡ length (words (clausesIn shortcuts (now (rows .entry)) (length (now (marks .entry))) (rootsIn (now (latches .entry)) (now (constraints .entry)) (now (bads .entry)) (now (outputs .entry)) (now (edges .entry)) (now (fairness .entry)) counts)))
+        ⌝ }
     ensures written { λ _. ⌜
-        now (clauses .exit)
-        ≡ writtenOver (words (clausesIn shortcuts (now (rows .entry)) (length (now (marks .entry))) (rootsIn (now (latches .entry)) (now (constraints .entry)) (now (bads .entry)) (now (outputs .entry)) (now (edges .entry)) (now (fairness .entry)) counts))) (now (clauses .entry))
+        WrittenIfRoom (now (clauses .entry)) 0
+        (words (clausesIn shortcuts (now (rows .entry)) (length (now (marks .entry))) (rootsIn (now (latches .entry)) (now (constraints .entry)) (now (bads .entry)) (now (outputs .entry)) (now (edges .entry)) (now (fairness .entry)) counts)))
+        (now (clauses .exit))
         ⌝ }
     ensures kept { λ _. ⌜ now (marks .exit) ≡ now (marks .entry) ⌝ }
 {
@@ -94,9 +60,54 @@ fn write_words(
         marks,
     );
     put_unit(clauses);
-    write(shortcuts, rows, clauses, 2, marks);
+    let end = put_rows(shortcuts, rows, clauses, marks);
     let used = marks.len();
     clear(marks, used);
+    end
+}
+
+// Is there room for the clauses? They are at most 2 + 16·gates words, and row 0 is no gate: where there is room for so many, the need is not counted. The marks are 0 before and after.
+fn has_room(
+    rows: &[u32],
+    latches: &[u32],
+    constraints: &[u32],
+    bads: &[u32],
+    outputs: &[u32],
+    edges: &[u32],
+    fairness: &[u32],
+    counts: Counts,
+    shortcuts: bool,
+    room: usize,
+    marks: &mut [u32],
+) -> bool
+    requires { ⌜ RootsFit (now latches) (now constraints) (now bads) (now outputs) (now edges) (now fairness) counts ⌝ }
+    requires { ⌜ Ready (now rows) (length (now marks)) (rootsIn (now latches) (now constraints) (now bads) (now outputs) (now edges) (now fairness) counts) (now marks) ⌝ }
+    ensures fits { λ r. ⌜
+        r
+        ≡ leb (length (words (clausesIn shortcuts (now (rows .entry)) (length (now (marks .entry))) (rootsIn (now (latches .entry)) (now (constraints .entry)) (now (bads .entry)) (now (outputs .entry)) (now (edges .entry)) (now (fairness .entry)) counts)))) room
+        ⌝ }
+    ensures kept { λ _. ⌜ now (marks .exit) ≡ now (marks .entry) ⌝ }
+{
+    let used = marks.len();
+    let most = 2 + 16 * (used - 1);
+    if most <= room {
+        return true;
+    }
+    let mut nothing = [0u32; 0];
+    let need = put_words(
+        rows,
+        latches,
+        constraints,
+        bads,
+        outputs,
+        edges,
+        fairness,
+        counts,
+        shortcuts,
+        &mut nothing,
+        marks,
+    );
+    need <= room
 }
 
 // Writes the clauses of the graph, with shortcuts for xor and if-then-else or without, and answers how many words they are. A buffer that is too short: 5.
@@ -137,7 +148,8 @@ pub fn cnf(
         return ClausesAnswer { answer, words: 0 };
     }
     let used = counts.rows;
-    let need = words_needed(
+    let room = clauses.len();
+    let fits = has_room(
         rows,
         latches,
         constraints,
@@ -147,15 +159,16 @@ pub fn cnf(
         fairness,
         counts,
         shortcuts,
+        room,
         &mut marks[..used],
     );
-    if clauses.len() < need {
+    if !fits {
         return ClausesAnswer {
             answer: Answer::NoRoom,
             words: 0,
         };
     }
-    write_words(
+    let written = put_words(
         rows,
         latches,
         constraints,
@@ -170,6 +183,6 @@ pub fn cnf(
     );
     ClausesAnswer {
         answer: Answer::Done,
-        words: need,
+        words: written,
     }
 }

@@ -4,17 +4,15 @@ ghost use mathlib.Core.Bool.{true};
 ghost use mathlib.Core.List.{[], _∷_};
 ghost use Prim.Native.Nat.{_+_, _*_, _≤_, _<_};
 ghost use lib.ListN.{length};
-ghost use lib.Seq.{sets};
 ghost use Rattle.rows.specs.Sizes.{maxRows};
 ghost use Rattle.graph.specs.Leaves.{usedEdge};
 ghost use Rattle.roots.specs.Arguments.{every};
 ghost use Rattle.roots.specs.Marking.{markEdges};
-ghost use Rattle.shapes.specs.Shapes.{operands, words};
+ghost use Rattle.shapes.specs.Shapes.{operands, words, WrittenIfRoom};
 ghost use Rattle.cnf.specs.Clauses.{writtenAt, walk};
 use rows::kinds::is_gate;
 use shapes::Shape;
 use shapes::put::put_shape;
-use shapes::put::size;
 use shapes::shape_of;
 
 // Marks the row of an edge.
@@ -66,35 +64,19 @@ fn visit(shortcuts: bool, rows: &[u32], i: usize, marks: &mut [u32]) -> Shape
     s
 }
 
-// How many words the clauses of the rows take.
-pub fn count(shortcuts: bool, rows: &[u32], marks: &mut [u32]) -> usize
+// The clauses of the rows, behind the unit clause, each row's where there is room for them. The place behind them all, whether they are written or not.
+pub fn put_rows(shortcuts: bool, rows: &[u32], clauses: &mut [u32], marks: &mut [u32]) -> usize
     requires { ⌜ 2 * length (now marks) ≤ length (now rows) ⌝ }
     requires { ⌜ length (now marks) ≤ maxRows ⌝ }
-    ensures { λ r. ⌜ r ≡ length (words (walk shortcuts (now (rows .entry)) (length (now (marks .entry))) (now (marks .entry)))) ⌝ }
+    ensures place { λ r. ⌜ r ≡ 2 + length (words (walk shortcuts (now (rows .entry)) (length (now (marks .entry))) (now (marks .entry)))) ⌝ }
+    ensures written { λ _. ⌜ WrittenIfRoom (now (clauses .entry)) 2 (words (walk shortcuts (now (rows .entry)) (length (now (marks .entry))) (now (marks .entry)))) (now (clauses .exit)) ⌝ }
 {
-    let mut n = 0;
+    let mut at = 2;
     let mut i = marks.len();
     while 0 < i {
         i -= 1;
         let s = visit(shortcuts, rows, i, marks);
-        n += size(s);
+        at = put_shape(clauses, at, 2 * (i as u32), s);
     }
-    n
-}
-
-// The clauses of the rows, written from a place on.
-pub fn write(shortcuts: bool, rows: &[u32], clauses: &mut [u32], from: usize, marks: &mut [u32])
-    requires { ⌜ 2 * length (now marks) ≤ length (now rows) ⌝ }
-    requires { ⌜ length (now marks) ≤ maxRows ⌝ }
-    requires { ⌜ from + length (words (walk shortcuts (now rows) (length (now marks)) (now marks))) ≤ length (now clauses) ⌝ }
-    ensures { λ _. ⌜ now (clauses .exit) ≡ sets (now (clauses .entry)) from (words (walk shortcuts (now (rows .entry)) (length (now (marks .entry))) (now (marks .entry)))) ⌝ }
-{
-    let mut at = from;
-    let mut i = marks.len();
-    while 0 < i {
-        i -= 1;
-        let s = visit(shortcuts, rows, i, marks);
-        put_shape(clauses, at, 2 * (i as u32), s);
-        at += size(s);
-    }
+    at
 }

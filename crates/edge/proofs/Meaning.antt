@@ -1,13 +1,13 @@
 -- What codes, complements and constants mean.
 -- Assumes nothing.
-use Prim.Native.Nat.{ℕ, _+_, _-_, _*_, _%_}
+use Prim.Native.Nat.{ℕ, _+_, _-_, _*_, _/_, _%_}
 use native.Mathlib.Omega.{arith}
 use mathlib.Core.Bool.{Bool, true, false, cond, not, xor, Bool·not-not}
 use mathlib.Core.Path.{_≡_, refl, sym, _∙_}
 use borrow.Author.Tests.{eqb-true, eqb-false, eq-eqb, ne-eqb}
 use mathlib.Core.List.{List}
 use lib.ListN.{length, getD}
-use lib.Dec.{ltb, leb}
+use lib.Dec.{ltb, leb, eqb}
 use Rattle.edge.specs.Answers.{badArgument}
 use Rattle.edge.specs.Edges.{edgeOf, idOf, isComplemented, maxId, complement, complementIf, constantOf, EdgeSeen, edgeDone, edgeRefused, newCall, mapCall}
 use Rattle.edge.specs.Meaning.{edgeValue, Coding, Complementing, Mapping, Constants}
@@ -39,6 +39,20 @@ complement-odd e h = rw (eq-eqb (e % 2) 1 h) (omega arith)
 pub complement-even : (e : ℕ) → (e % 2 ≡ 1 → ⊥) → complement e ≡ e + 1
 unfolding complement
 complement-even e h = rw (ne-eqb (e % 2) 1 h) (omega arith)
+
+-- the same by its two parts
+pub complement-parts : (e : ℕ) → complement e ≡ 2 * (e / 2) + (1 - e % 2)
+complement-parts e = go (eqb (e % 2) 1) refl
+  where
+    go : (t : Bool) → eqb (e % 2) 1 ≡ t → complement e ≡ 2 * (e / 2) + (1 - e % 2)
+    go true h =
+        let odd = eqb-true (e % 2) 1 h in
+        let parts : e - 1 ≡ 2 * (e / 2) + (1 - e % 2) = omega arith in
+        complement-odd e odd ∙ parts
+    go false h =
+        let even = eqb-false (e % 2) 1 h in
+        let parts : e + 1 ≡ 2 * (e / 2) + (1 - e % 2) = omega arith in
+        complement-even e even ∙ parts
 
 -- the code of a row, signed
 pub even-signed : (id : ℕ) (c : Bool) → complementIf c (2 * id) ≡ edgeOf id c

@@ -3,17 +3,37 @@
 use Prim.Native.Nat.{ℕ, zero, suc, _+_, _-_, _*_, _≤_, _<_}
 use native.Mathlib.Omega.{arith}
 use mathlib.Core.Path.{_≡_, refl, ap, _∙_}
-use mathlib.Core.Bool.{Bool, true, false, cond}
+use mathlib.Core.Bool.{Bool, true, false, cond, _&&_, _||_}
+use mathlib.Core.Logic.{⊎-elim}
 use mathlib.Core.List.{List}
 use lib.ListN.{length, getD, set, length-set}
-use lib.Dec.{eqb}
-use borrow.Author.Tests.{eq-eqb, ne-eqb}
-use Rattle.rows.specs.Rows.{none, word0, word1, gateAt}
+use lib.Dec.{ltb, eqb}
+use borrow.Author.Tests.{le-ltb, eqb-true, eq-eqb, ne-eqb}
+use Rattle.edge.proofs.Tests.{both, either}
+use Rattle.rows.specs.Sizes.{maxRows}
+use Rattle.rows.specs.Rows.{falseWord, none, word0, word1, isFalseRow, isLeaf, isGate, isRow, rowAt, gateAt}
 use Rattle.gates.specs.Gates.{State, addAnd, leafAdded}
 use Rattle.gates.proofs.Building.{row-long as row-added-long, and-sized, and-like}
 use Rattle.graph.specs.declared.Counts.{Counts}
 use Rattle.frame.specs.Map.{mapped, startMap}
 use Rattle.frame.specs.Frame.{Frame, frame, gatePlaced, leafPlaced, frameRow, frameRows, frameOf}
+
+-- ---- of rows a gate alone has a first word below the false row's
+module _ (from : List ℕ) (i : ℕ) where
+  pub first-gate : rowAt from i ≡ true → word0 from i < falseWord → gateAt from i ≡ true
+  unfolding isRow isFalseRow isLeaf
+  first-gate r l =
+      ⊎-elim
+      (λ h. ⊎-elim
+      (λ z. absurd (omega (arith, l, eqb-true (word0 from i) falseWord (both {a = eqb i 0} {b = eqb (word0 from i) falseWord} (both {a = eqb i 0 && eqb (word0 from i) falseWord} {b = eqb (word1 from i) 0} z .0) .1))))
+      (λ z. absurd (omega (arith, l, eqb-true (word0 from i) none (both {a = ltb 0 i} {b = eqb (word0 from i) none} (both {a = ltb 0 i && eqb (word0 from i) none} {b = eqb (word1 from i) 0} z .0) .1))))
+      (either {a = isFalseRow i (word0 from i) (word1 from i)} h))
+      (λ k. k)
+      (either {a = isFalseRow i (word0 from i) (word1 from i) || isLeaf i (word0 from i) (word1 from i)} r)
+
+  pub else-no-gate : i ≤ maxRows → falseWord ≤ word0 from i → gateAt from i ≡ false
+  unfolding isGate
+  else-no-gate few l = rw (le-ltb (word0 from i) (2 * i) (omega arith))
 
 -- ---- one row, by its kind
 module _ (from : List ℕ) (i : ℕ) (s : Frame) where

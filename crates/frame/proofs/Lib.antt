@@ -4,4 +4,5 @@ pub mod Ready
 pub mod Extending
 pub mod Forming
 pub mod Valuing
+pub mod Bounding
 pub mod Meaning

@@ -207,7 +207,7 @@ module _ (latches : List ℕ) where
         nexts-other n (set (replicate used none) 0 0) x h
         ∙ (getD-set-other (replicate used none) 0 x 0 0 (λ (e : x ≡ 0). absurd (omega arith)) ∙ getD-replicate {A = ℕ} used x none 0 l)
 
-    start-zero : 0 < used → ((j : ℕ) → j < n → latchAt latches j .input ≡ 0 → ⊥) → getD (startMap latches n used) 0 0 ≡ 0
+    pub start-zero : 0 < used → ((j : ℕ) → j < n → latchAt latches j .input ≡ 0 → ⊥) → getD (startMap latches n used) 0 0 ≡ 0
     unfolding startMap
     start-zero p h = nexts-other n (set (replicate used none) 0 0) 0 h ∙ getD-set-same (replicate used none) 0 0 0 (omega (arith, length-replicate {A = ℕ} used none))
 
@@ -218,7 +218,7 @@ module _ (latches : List ℕ) where
         nexts-here n (set (replicate used none) 0 0) d (λ i p. omega (arith, u i p, length-set (replicate used none) 0 0, length-replicate {A = ℕ} used none)) j l
 
 -- a leaf is behind row 0
-leaf-some : (x a b : ℕ) → isLeaf x a b ≡ true → 0 < x
+pub leaf-some : (x a b : ℕ) → isLeaf x a b ≡ true → 0 < x
 unfolding isLeaf
 leaf-some x a b h = ltb-true 0 x (both {a = ltb 0 x} {b = eqb a none} (both {a = ltb 0 x && eqb a none} {b = eqb b 0} h .0) .0)
 

@@ -1,12 +1,13 @@
 -- What the step that adds a frame asks for, answers and writes.
 -- Assumes nothing.
-use Prim.Native.Nat.{ℕ, _*_, _≤_}
+use Prim.Native.Nat.{ℕ, _*_, _≤_, _<_}
 use mathlib.Core.Path.{_≡_}
 use mathlib.Core.List.{List}
 use mathlib.Core.Bool.{Bool, cond}
+use Rattle.rows.specs.Rows.{AllRows}
 use Rattle.rows.specs.Sizes.{maxRows}
 use Rattle.graph.specs.declared.Counts.{Counts}
-use Rattle.graph.specs.Latches.{latchInputs}
+use Rattle.graph.specs.Latches.{latchAt, latchInputs}
 use Rattle.graph.specs.Graph.{Lent, Sized}
 use Rattle.graph.specs.Check.{cleared}
 use Rattle.graph.specs.WellFormed.{WellFormed}
@@ -44,6 +45,11 @@ frameSeen fits graph marks = record { fits = fits; graph = graph; marks = marks 
 -- where the frame does not fit nothing changes; the marks are cleared over the rows of b either way
 unfoldable pub frameCall : Lent → Lent → List ℕ → FrameSeen
 frameCall a b marks = frameSeen (frameFits a b) (cond (frameFits a b) (framed a b) a) (cleared (b .counts .rows) marks)
+
+-- a frame takes no more than the most: every row of `from` is one, and row 0, which no latch names, stays false
+pub record Bounded (latches : List ℕ) (n : ℕ) (from : List ℕ) (used : ℕ) : Type 0 where
+  pub rows : AllRows from used
+  pub behind : (j : ℕ) → j < n → 0 < latchAt latches j .input
 
 -- counts that can be added
 pub record Addable (n : Counts) : Type 0 where

@@ -1,8 +1,8 @@
 -- One frame of `unroll`: the rows of a graph built once more, over a map from its rows to edges.
 -- Assumes nothing.
-use Prim.Native.Nat.{ℕ, zero, suc, _+_, _*_}
+use Prim.Native.Nat.{ℕ, zero, suc, _+_, _-_, _*_}
 use mathlib.Core.List.{List, []}
-use mathlib.Core.Bool.{Bool, cond}
+use mathlib.Core.Bool.{Bool, cond, _&&_}
 use lib.ListN.{getD, set}
 use lib.Dec.{eqb}
 use Rattle.rows.specs.Rows.{none, word0, word1, gateAt}
@@ -79,3 +79,17 @@ frameFits a b = hasRoom a (framed a b .counts)
 -- the counts after a frame on no rows and no inputs
 abbrev pub needOf : Counts → List ℕ → List ℕ → Counts → Counts
 needOf at latches from n = let f = frameOf [] [] at latches from (n .rows) in raised at n (f .used) (f .listed)
+
+-- ---- the most that the counts can be after a frame
+-- row i is a leaf that the map has no edge for: a new input
+abbrev pub newLeaf : List ℕ → List ℕ → ℕ → Bool
+newLeaf from map i = eqb (word0 from i) none && eqb (getD map i 0) none
+
+-- how many of the n rows from i on are such leaves
+unfoldable pub newLeaves : List ℕ → List ℕ → ℕ → ℕ → ℕ
+newLeaves from map i zero = 0
+newLeaves from map i (suc n) = cond (newLeaf from map i) 1 0 + newLeaves from map (i + 1) n
+
+-- a row for each but row 0, and an input for each new leaf
+abbrev pub mostOf : Counts → List ℕ → List ℕ → Counts → Counts
+mostOf at latches from n = raised at n (at .rows + (n .rows - 1)) (at .inputs + newLeaves from (startMap latches (at .latches) (n .rows)) 0 (n .rows))

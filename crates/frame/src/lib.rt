@@ -5,14 +5,18 @@ mod rebuild;
 ghost use mathlib.Core.Path.{_≡_};
 ghost use Prim.Native.Nat.{_*_, _≤_, _<_};
 ghost use lib.ListN.{length};
+ghost use Rattle.rows.specs.Rows.{AllRows};
 ghost use Rattle.graph.specs.Graph.{lent};
 ghost use Rattle.graph.specs.Check.{cleared};
+ghost use Rattle.renumber.specs.Room.{roomOf};
 ghost use Rattle.frame.specs.Map.{LatchesWithin};
-ghost use Rattle.frame.specs.Frame.{raised as raisedBy, needOf, framed};
-ghost use Rattle.frame.specs.Call.{Addable, FrameReady, FrameRoom, frameSeen, frameCall};
+ghost use Rattle.frame.specs.Frame.{raised as raisedBy, needOf, mostOf, framed};
+ghost use Rattle.frame.specs.Call.{Addable, Bounded, FrameReady, FrameRoom, frameSeen, frameCall};
 use graph::Counts;
 use graph::marks::clear;
 use map::grow_lists;
+use map::new_leaves;
+use map::start_map;
 use rebuild::Reached;
 use rebuild::frame_of;
 use renumber::output::has_room;
@@ -50,6 +54,7 @@ fn needed(
     counts2: Counts,
     marks: &mut [u32],
 ) -> Counts
+    requires { ⌜ AllRows (now rows2) (counts2 .rows) ⌝ }
     requires { ⌜ Addable counts ⌝ }
     requires { ⌜ Addable counts2 ⌝ }
     requires { ⌜ (0 < counts2 .rows) × (2 * counts2 .rows ≤ length (now rows2)) × (counts2 .rows ≤ length (now marks)) ⌝ }
@@ -70,6 +75,94 @@ fn needed(
     );
     clear(marks, n);
     raised(counts, counts2, reached)
+}
+
+// The most that the target's counts can be: folding only saves rows, so each row but row 0 takes one at most. The new inputs are counted, since lists are often lent just as long as they
+// must be, and a row for each would be far too many. The marks are cleared.
+fn most(
+    latches: &[u32],
+    counts: Counts,
+    rows2: &[u32],
+    counts2: Counts,
+    marks: &mut [u32],
+) -> Counts
+    requires { ⌜ Addable counts ⌝ }
+    requires { ⌜ Addable counts2 ⌝ }
+    requires { ⌜ (0 < counts2 .rows) × (2 * counts2 .rows ≤ length (now rows2)) × (counts2 .rows ≤ length (now marks)) ⌝ }
+    requires { ⌜ LatchesWithin (now latches) (counts .latches) (counts2 .rows) ⌝ }
+    ensures { λ r. ⌜ r ≡ mostOf counts (now (latches .entry)) (now (rows2 .entry)) counts2 ⌝ }
+    ensures { λ _. ⌜ now (marks .exit) ≡ cleared (counts2 .rows) (now (marks .entry)) ⌝ }
+{
+    let n = counts2.rows;
+    start_map(latches, counts.latches, &mut marks[..n]);
+    let leaves = new_leaves(rows2, &marks[..n]);
+    clear(marks, n);
+    raised(
+        counts,
+        counts2,
+        Reached {
+            used: counts.rows + (n - 1),
+            inputs: counts.inputs + leaves,
+        },
+    )
+}
+
+// Is there room for a frame? Where the most that it can take fits, the need is not counted: that is as much work as the frame itself. The marks are cleared.
+fn fits(
+    rows: &[u32],
+    inputs: &[u32],
+    latches: &[u32],
+    constraints: &[u32],
+    bads: &[u32],
+    outputs: &[u32],
+    ends: &[u32],
+    edges: &[u32],
+    fairness: &[u32],
+    counts: Counts,
+    rows2: &[u32],
+    counts2: Counts,
+    marks: &mut [u32],
+) -> bool
+    requires { ⌜ Addable counts ⌝ }
+    requires { ⌜ Addable counts2 ⌝ }
+    requires { ⌜ (0 < counts2 .rows) × (2 * counts2 .rows ≤ length (now rows2)) × (counts2 .rows ≤ length (now marks)) ⌝ }
+    requires { ⌜ LatchesWithin (now latches) (counts .latches) (counts2 .rows) ⌝ }
+    requires { ⌜ Bounded (now latches) (counts .latches) (now rows2) (counts2 .rows) ⌝ }
+    ensures { λ r. ⌜
+        r
+        ≡ roomOf (now (rows .entry)) (now (inputs .entry)) (now (latches .entry)) (now (constraints .entry)) (now (bads .entry)) (now (outputs .entry)) (now (ends .entry)) (now (edges .entry)) (now (fairness .entry))
+        (needOf counts (now (latches .entry)) (now (rows2 .entry)) counts2)
+        ⌝ }
+    ensures { λ _. ⌜ now (marks .exit) ≡ cleared (counts2 .rows) (now (marks .entry)) ⌝ }
+{
+    let most = most(latches, counts, rows2, counts2, marks);
+    if has_room(
+        rows,
+        inputs,
+        latches,
+        constraints,
+        bads,
+        outputs,
+        ends,
+        edges,
+        fairness,
+        most,
+    ) {
+        return true;
+    }
+    let need = needed(latches, counts, rows2, counts2, marks);
+    has_room(
+        rows,
+        inputs,
+        latches,
+        constraints,
+        bads,
+        outputs,
+        ends,
+        edges,
+        fairness,
+        need,
+    )
 }
 
 // Writes the frame, where there is room for it: the rows and inputs first, then by their map the latches' nexts and the lists. The marks hold the map, and are cleared.
@@ -175,8 +268,7 @@ pub fn add_frame(
         (now (marks .entry))
         ⌝ }
 {
-    let need = needed(latches, counts, rows2, counts2, marks);
-    if !has_room(
+    if !fits(
         rows,
         inputs,
         latches,
@@ -186,7 +278,10 @@ pub fn add_frame(
         ends,
         edges,
         fairness,
-        need,
+        counts,
+        rows2,
+        counts2,
+        marks,
     ) {
         return Framed {
             fits: false,

@@ -4,11 +4,13 @@ ghost use Prim.Native.Nat.{_+_, _*_, _≤_, _<_};
 ghost use lib.ListN.{length, replicate};
 ghost use Rattle.edge.specs.Edges.{idOf};
 ghost use Rattle.rows.specs.Rows.{none};
+ghost use Rattle.rows.specs.Sizes.{maxRows};
 ghost use Rattle.graph.specs.Latches.{latchWords};
 ghost use Rattle.renumber.specs.Writing.{written};
 ghost use Rattle.renumber.specs.Renumber.{lists};
 ghost use Rattle.renumber.specs.Map.{UsedEdges};
 ghost use Rattle.frame.specs.Map.{mapped as mappedBy, startMap, LatchesWithin, NextsUsed, mappedOf, nextsSet, listsGrown, ListsReady};
+ghost use Rattle.frame.specs.Frame.{newLeaves};
 use graph::Counts;
 use graph::latch::Latch;
 use graph::latch::latch_at;
@@ -37,6 +39,20 @@ pub fn start_map(latches: &[u32], n: usize, map: &mut [u32])
         let l = latch_at(latches, j);
         map[l.input as usize] = l.next;
     }
+}
+
+// How many leaves of `from` the map has no edge for yet: each becomes an input. Of rows that are sound the first word tells a leaf.
+pub fn new_leaves(from: &[u32], map: &[u32]) -> usize
+    requires { ⌜ (2 * length (now map) ≤ length (now from)) × (length (now map) ≤ maxRows) ⌝ }
+    ensures { λ r. ⌜ r ≡ newLeaves (now (from .entry)) (now (map .entry)) 0 (length (now (map .entry))) ⌝ }
+{
+    let mut n = 0u32;
+    for i in 0..map.len() {
+        if (from[2 * i] == NONE) & (map[i] == NONE) {
+            n = n + 1;
+        }
+    }
+    n as usize
 }
 
 // The edge that stands for an edge of `from`.

@@ -2,7 +2,9 @@
 ghost use mathlib.Core.Path.{_≡_};
 ghost use Prim.Native.Nat.{_+_, _*_, _≤_, _<_};
 ghost use lib.ListN.{length, set};
+ghost use mathlib.Core.Bool.{true};
 ghost use Rattle.rows.specs.Sizes.{maxRows};
+ghost use Rattle.rows.specs.Rows.{rowAt, AllRows};
 ghost use Rattle.gates.specs.Gates.{stepLimit, leafAdded};
 ghost use Rattle.frame.specs.Map.{LatchesWithin};
 ghost use Rattle.frame.specs.Frame.{frame, frameRow, frameRows, frameOf};
@@ -11,8 +13,8 @@ use crate::map::start_map;
 use gates::add_and;
 use gates::add_row;
 use graph::Counts;
+use rows::kinds::FALSE_ROW;
 use rows::kinds::NONE;
-use rows::kinds::is_gate;
 
 // How many rows are used, and how many inputs are listed.
 pub struct Reached {
@@ -33,7 +35,7 @@ fn add_leaf(rows: &mut [u32], inputs: &mut [u32], at: Reached)
     }
 }
 
-// Row i.
+// Row i. It is a row, so its first word tells whether it is a gate.
 fn frame_row(
     from: &[u32],
     i: usize,
@@ -42,13 +44,14 @@ fn frame_row(
     at: Reached,
     map: &mut [u32],
 ) -> Reached
+    requires { ⌜ (rowAt (now from) i ≡ true) × (i ≤ maxRows) ⌝ }
     requires { ⌜ (2 * i + 2 ≤ length (now from)) × (i < length (now map)) ⌝ }
     requires { ⌜ (at .used ≤ stepLimit) × (at .inputs ≤ stepLimit) ⌝ }
     ensures { λ r. ⌜ frame (now (rows .exit)) (r .used) (now (inputs .exit)) (r .inputs) (now (map .exit)) ≡ frameRow (now (from .entry)) i (frame (now (rows .entry)) (at .used) (now (inputs .entry)) (at .inputs) (now (map .entry))) ⌝ }
 {
     let a = from[2 * i];
     let b = from[2 * i + 1];
-    if is_gate(i, a, b) {
+    if a < FALSE_ROW {
         let g = add_and(rows, at.used, mapped(map, a), mapped(map, b));
         map[i] = g.edge;
         return Reached {
@@ -75,6 +78,7 @@ fn frame_rows(
     at: Reached,
     map: &mut [u32],
 ) -> Reached
+    requires { ⌜ AllRows (now from) (length (now map)) ⌝ }
     requires { ⌜ (2 * length (now map) ≤ length (now from)) × (length (now map) ≤ maxRows) ⌝ }
     requires { ⌜ (at .used ≤ maxRows) × (at .inputs ≤ maxRows) ⌝ }
     ensures { λ r. ⌜ frame (now (rows .exit)) (r .used) (now (inputs .exit)) (r .inputs) (now (map .exit)) ≡ frameRows (now (from .entry)) 0 (length (now (map .entry))) (frame (now (rows .entry)) (at .used) (now (inputs .entry)) (at .inputs) (now (map .entry))) ⌝ }
@@ -112,6 +116,7 @@ pub fn frame_of(
     from: &[u32],
     map: &mut [u32],
 ) -> Reached
+    requires { ⌜ AllRows (now from) (length (now map)) ⌝ }
     requires { ⌜ (0 < length (now map)) × (2 * length (now map) ≤ length (now from)) × (length (now map) ≤ maxRows) ⌝ }
     requires { ⌜ (at .rows ≤ maxRows) × (at .inputs ≤ maxRows) ⌝ }
     requires { ⌜ LatchesWithin (now latches) (at .latches) (length (now map)) ⌝ }

@@ -9,10 +9,11 @@ use mathlib.Core.Bool.{Bool, true, false, cond}
 use mathlib.Core.List.{List, [], _∷_, _++_, append-nil}
 use lib.ListN.{length, set, take, drop, length-drop, length-set, drop-of-length-le}
 use lib.Seq.{take-all}
-use lib.Dec.{leb}
+use lib.Dec.{leb, ltb, eqb}
 use borrow.Rule.Slice.PartMut.{putMid, midOf}
-use borrow.Author.Tests.{le-leb, lt-leb, eq-eqb, ne-eqb}
-use Rattle.edge.specs.Edges.{complement}
+use borrow.Author.Tests.{ltb-true, ltb-false, le-leb, lt-leb, eq-eqb, ne-eqb}
+use Rattle.edge.specs.Edges.{idOf, complement}
+use Rattle.edge.proofs.Meaning.{complement-parts}
 use Rattle.gates.specs.declared.Fold.{Fold}
 use Rattle.gates.specs.declared.Fold.the-variants.{To, Gate}
 use Rattle.gates.specs.Gates.{State, state, rowAdded, first, second, addGate, folded, orGate, addAnd, addStep, step, steps}
@@ -62,15 +63,49 @@ pub gate-added : (rows : List ℕ) (used a b : ℕ) {x y : ℕ} (now : List ℕ)
 unfolding addGate
 gate-added rows used a b now p q e = rw (e, p, q)
 
--- ---- folding
-module _ (a b : ℕ) (h : a ≡ 1 → ⊥) (i : a ≡ 0 → ⊥) (j : b ≡ 1 → ⊥) (k : b ≡ 0 → ⊥) (l : a ≡ b → ⊥) {n : ℕ} (q : n ≡ complement b) where
-  pub fold-opposite : a ≡ n → To 0 ≡ folded a b
-  unfolding folded
-  fold-opposite e = rw (ne-eqb a 1 h, ne-eqb a 0 i, ne-eqb b 1 j, ne-eqb b 0 k, ne-eqb a b l, eq-eqb a (complement b) (e ∙ q))
+-- ---- folding, of edges in order
+pub fold-true : (a b : ℕ) → a ≡ 1 → To b ≡ folded a b
+unfolding folded
+fold-true a b e = rw (eq-eqb a 1 e)
 
-  pub fold-gate : (a ≡ n → ⊥) → Gate ≡ folded a b
+pub fold-false : (a b : ℕ) → a < 2 → (a ≡ 1 → ⊥) → To 0 ≡ folded a b
+unfolding folded
+fold-false a b l h = let e : a ≡ 0 = omega arith in rw (ne-eqb a 1 h, eq-eqb a 0 e)
+
+module _ (a b : ℕ) (s : idOf a ≤ idOf b) (l : 2 ≤ a) where
+  no-constants : (f : Fold) → f ≡ cond (eqb a b) (To a) (cond (eqb a (complement b)) (To 0) Gate) → f ≡ folded a b
   unfolding folded
-  fold-gate m = rw (ne-eqb a 1 h, ne-eqb a 0 i, ne-eqb b 1 j, ne-eqb b 0 k, ne-eqb a b l, ne-eqb a (complement b) (λ e. m (e ∙ sym q)))
+  no-constants f e =
+      let h : a ≡ 1 → ⊥ = λ (z : a ≡ 1). omega arith in
+      let i : a ≡ 0 → ⊥ = λ (z : a ≡ 0). omega arith in
+      let j : b ≡ 1 → ⊥ = λ (z : b ≡ 1). omega arith in
+      let k : b ≡ 0 → ⊥ = λ (z : b ≡ 0). omega arith in
+      rw (ne-eqb a 1 h, ne-eqb a 0 i, ne-eqb b 1 j, ne-eqb b 0 k) e
+
+  pub fold-same : a ≡ b → To a ≡ folded a b
+  fold-same e = no-constants (To a) (rw (eq-eqb a b e))
+
+  pub fold-opposite : idOf a ≡ idOf b → (a ≡ b → ⊥) → To 0 ≡ folded a b
+  fold-opposite e h =
+      let parts = complement-parts b in
+      let q : a ≡ complement b = omega arith in
+      no-constants (To 0) (rw (ne-eqb a b h, eq-eqb a (complement b) q))
+
+  pub fold-gate : (idOf a ≡ idOf b → ⊥) → Gate ≡ folded a b
+  fold-gate h =
+      let parts = complement-parts b in
+      let m : a ≡ b → ⊥ = λ (z : a ≡ b). omega arith in
+      let q : a ≡ complement b → ⊥ = λ (z : a ≡ complement b). omega arith in
+      no-constants Gate (rw (ne-eqb a b m, ne-eqb a (complement b) q))
+
+-- the two in order are in order
+pub in-order : (a b : ℕ) {x y : ℕ} → x ≡ first a b → y ≡ second a b → idOf x ≤ idOf y
+unfolding first second
+in-order a b p q = go (ltb (idOf b) (idOf a)) refl p q
+  where
+    go : (t : Bool) → ltb (idOf b) (idOf a) ≡ t → {x y : ℕ} → x ≡ cond t b a → y ≡ cond t a b → idOf x ≤ idOf y
+    go true h p q = let l = ltb-true (idOf b) (idOf a) h in rw (p, q) (omega arith)
+    go false h p q = let l = ltb-false (idOf b) (idOf a) h in rw (p, q) (omega arith)
 
 module _ (rows : List ℕ) (used a b : ℕ) {x y : ℕ} {f : Fold} (p : x ≡ first a b) (q : y ≡ second a b) (r : f ≡ folded x y) where
   pub and-to : {e : ℕ} → f ≡ To e → state rows used e ≡ addAnd rows used a b

@@ -4,6 +4,7 @@ pub mod lists;
 ghost use mathlib.Core.Path.{_≡_};
 ghost use Prim.Native.Nat.{_≤_};
 ghost use lib.ListN.{length, set};
+ghost use Rattle.edge.specs.Edges.{idOf};
 ghost use Rattle.gates.specs.Gates.{stepLimit, stateOf, rowAdded, first, second, addGate, folded, addAnd, addStep};
 
 // How many rows are used after a step, and the edge that it built.
@@ -64,26 +65,21 @@ pub fn add_gate(rows: &mut [u32], used: usize, a: u32, b: u32) -> Grown
     }
 }
 
-// What the AND of two edges in order folds to.
+// What the AND of two edges in order folds to. Of edges in order the second is a constant only where the first is one, and equal and complementary edges have one id: so two questions do.
 fn folded(a: u32, b: u32) -> Fold
+    requires { ⌜ idOf a ≤ idOf b ⌝ }
     ensures { λ r. ⌜ r ≡ folded a b ⌝ }
 {
-    if a == 1 {
-        return Fold::To(b);
-    }
-    if a == 0 {
+    if a < 2 {
+        if a == 1 {
+            return Fold::To(b);
+        }
         return Fold::To(0);
     }
-    if b == 1 {
-        return Fold::To(a);
-    }
-    if b == 0 {
-        return Fold::To(0);
-    }
-    if a == b {
-        return Fold::To(a);
-    }
-    if a == edge::not(b) {
+    if a / 2 == b / 2 {
+        if a == b {
+            return Fold::To(a);
+        }
         return Fold::To(0);
     }
     Fold::Gate

@@ -9,10 +9,11 @@ use mathlib.Core.List.{List}
 use lib.ListN.{length, set, length-set}
 use lib.Dec.{eqb}
 use Rattle.edge.specs.Edges.{idOf}
+use Rattle.rows.specs.Sizes.{maxRows}
 use Rattle.rows.specs.Rows.{none, word0, word1, gateAt}
 use Rattle.rows.proofs.Laws.{gate-below}
 use Rattle.graph.specs.Count.{countBelow}
-use Rattle.renumber.specs.Renumber.{renamed, Known}
+use Rattle.renumber.specs.Renumber.{renamed, Known, MappedEdge}
 use Rattle.graph.proofs.Counting.{count-past, count-same}
 use Rattle.keep.specs.Keeping.{keptWritten, wordPut}
 use Rattle.keep.specs.Copying.{rowWord, rowPut}
@@ -70,12 +71,15 @@ module _ (m : ℕ → ℕ) (rows out : List ℕ) (k i : ℕ) where
   row-is e p q = rw (← e, ← p, ← q)
 
 -- the edges of a gate go to rows below it
-module _ (rows : List ℕ) (i : ℕ) (map : List ℕ) (known : (j : ℕ) → j < i → Known map j) {t : Bool} (e : t ≡ gateAt rows i) where
+module _ (rows : List ℕ) (i : ℕ) (map : List ℕ) (small : i ≤ maxRows) (known : (j : ℕ) → j < i → Known map j) {t : Bool} (e : t ≡ gateAt rows i) where
+  word-ready : (w : ℕ) → idOf w < i → MappedEdge map w
+  word-ready w l = record { edge = omega arith; known = known (idOf w) l }
+
   pub first-ready : WordReady t (word0 rows i) map
-  first-ready g n = known _ (gate-below i (word0 rows i) (word1 rows i) (sym e ∙ g) .0)
+  first-ready g = word-ready (word0 rows i) (gate-below i (word0 rows i) (word1 rows i) (sym e ∙ g) .0)
 
   pub second-ready : WordReady t (word1 rows i) map
-  second-ready g n = known _ (gate-below i (word0 rows i) (word1 rows i) (sym e ∙ g) .1)
+  second-ready g = word-ready (word1 rows i) (gate-below i (word0 rows i) (word1 rows i) (sym e ∙ g) .1)
 
 -- ---- things that agree
 pub kept-same : (p q : ℕ → Bool) (put put′ : List ℕ → ℕ → ℕ → List ℕ) (out : List ℕ) (n : ℕ)

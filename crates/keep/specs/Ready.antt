@@ -12,7 +12,7 @@ use Rattle.graph.specs.Leaves.{usedEdge}
 use Rattle.roots.specs.Arguments.{every}
 use Rattle.roots.specs.Roots.{rootsIn, RootsFit}
 use Rattle.graph.specs.Count.{countBelow}
-use Rattle.renumber.specs.Renumber.{Known, Mapped}
+use Rattle.renumber.specs.Renumber.{Known, MappedEdge}
 use Rattle.keep.specs.Keeping.{numbered, keptInput}
 
 -- n latch inputs are rows that have a mark
@@ -37,12 +37,13 @@ pub record IdsThere (map list : List ℕ) (n : ℕ) : Type 0 where
 
 -- a word of a gate is an edge that can be mapped
 abbrev pub WordReady : Bool → ℕ → List ℕ → Type 0
-WordReady gate w map = gate ≡ true → Mapped map w
+WordReady gate w map = gate ≡ true → MappedEdge map w
 
 -- row i may become row k
 pub record RowReady (rows : List ℕ) (i : ℕ) (out : List ℕ) (k : ℕ) (map : List ℕ) : Type 0 where
   pub row : 2 * i + 1 < length rows
   pub place : 2 * k + 1 < length out
+  pub small : i ≤ maxRows
   pub known : (j : ℕ) → j < i → Known map j
 
 -- the kept rows can be written

@@ -6,7 +6,7 @@ ghost use Rattle.keep.specs.Keeping.{numbered};
 ghost use Rattle.keep.specs.Copying.{rowPut, rowsKept, inputsKept, oldKept};
 ghost use Rattle.keep.specs.Ready.{WordReady, RowReady, RowsReady, KeptReady};
 use crate::numbers::is_numbered;
-use renumber::renamed;
+use renumber::renamed_edge;
 use rows::kinds::is_gate;
 
 // A word of a row: one of a gate is an edge, and one of another row stays.
@@ -15,7 +15,7 @@ fn row_word(gate: bool, w: u32, map: &[u32]) -> u32
     ensures { λ r. ⌜ r ≡ cond gate (renamedBy (by (now (map .entry))) w) w ⌝ }
 {
     if gate {
-        return renamed(w, map);
+        return renamed_edge(w, map);
     }
     w
 }

@@ -1,12 +1,15 @@
-// The check for callers in C: a slice is a pointer and a length.
+// The check, for callers in C. `told` takes the number and the place of the answer.
 ghost use mathlib.Core.Path.{_≡_};
+ghost use mathlib.Core.List.{[], _∷_};
 ghost use Rattle.graph.specs.Graph.{lent};
 ghost use Rattle.graph.specs.Check.{checkCall};
-ghost use Rattle.lend_words.specs.Words.{countsOf};
-ghost use Rattle.lend_check.specs.Check.{numberSeen, numberCall};
-use graph::Counts;
+ghost use Rattle.lend_words.specs.Words.{countsIn};
+ghost use Rattle.lend_check.specs.Check.{checkRead};
+ghost use Rattle.lend_words.specs.Told.{shown, shownOf};
+use lend_words::counts_in;
+use lend_words::tell;
 
-// `graph::check`, with the counts one by one. It answers the number alone.
+// `graph::check`.
 #[no_mangle]
 pub extern "C" fn sulandiro_check(
     rows: &[u32],
@@ -18,34 +21,17 @@ pub extern "C" fn sulandiro_check(
     ends: &[u32],
     edges: &[u32],
     fairness: &[u32],
-    used: usize,
-    n_inputs: usize,
-    n_latches: usize,
-    n_constraints: usize,
-    n_bads: usize,
-    n_outputs: usize,
-    n_sets: usize,
-    n_edges: usize,
-    n_fairness: usize,
+    counts: &[u64],
     marks: &mut [u32],
-) -> u8
-    ensures { λ r. ⌜
-        numberSeen r (now (marks .exit))
-        ≡ numberCall (checkCall (lent (now (rows .entry)) (now (inputs .entry)) (now (latches .entry)) (now (constraints .entry)) (now (bads .entry)) (now (outputs .entry)) (now (ends .entry)) (now (edges .entry)) (now (fairness .entry)) (countsOf used «n_inputs» «n_latches» «n_constraints» «n_bads» «n_outputs» «n_sets» «n_edges» «n_fairness»)) (now (marks .entry)))
+    told: &mut [u64],
+)
+    ensures { λ _. ⌜
+        shown (now (marks .exit) ∷ []) (now (told .exit))
+        ≡ shownOf (checkRead (checkCall (lent (now (rows .entry)) (now (inputs .entry)) (now (latches .entry)) (now (constraints .entry)) (now (bads .entry)) (now (outputs .entry)) (now (ends .entry)) (now (edges .entry)) (now (fairness .entry)) (countsIn (now (counts .entry)))) (now (marks .entry)))) (now (told .entry))
         ⌝ }
 {
-    let counts = Counts {
-        rows: used,
-        inputs: n_inputs,
-        latches: n_latches,
-        constraints: n_constraints,
-        bads: n_bads,
-        outputs: n_outputs,
-        sets: n_sets,
-        edges: n_edges,
-        fairness: n_fairness,
-    };
-    edge::told(graph::check(
+    let n = counts_in(counts);
+    let r = graph::check(
         rows,
         inputs,
         latches,
@@ -55,7 +41,8 @@ pub extern "C" fn sulandiro_check(
         ends,
         edges,
         fairness,
-        counts,
+        n,
         marks,
-    )).number
+    );
+    tell(told, r);
 }

@@ -1,4 +1,4 @@
--- What a caller in C sees of a call that rebuilds a graph: the nine lists, the marks, and the answer with the counts as words.
+-- What a caller in C sees of a call: the lists that it was lent to write, and the answer with what comes with it as words.
 -- Assumes nothing.
 use Prim.Native.Nat.{ℕ}
 use mathlib.Core.Path.{_≡_, ap}
@@ -11,10 +11,15 @@ use Rattle.graph.specs.Graph.{Lent}
 use Rattle.renumber.specs.Seen.{RebuiltSeen, ListedSeen}
 use Rattle.lend_words.specs.Words.{givenWords, countWords}
 
--- the number and the place, then the counts, as far as there is room
-unfoldable pub toldRebuilt : List ℕ → Given → Counts → List ℕ
-toldRebuilt told g n = sets (sets told 0 (givenWords g)) 4 (countWords n)
+-- the number and the place, then what comes with the answer, as far as there is room
+abbrev pub toldWords : List ℕ → Given → List ℕ → List ℕ
+toldWords told g ws = sets (sets told 0 (givenWords g)) 4 ws
 
+-- the number and the place, then the counts
+unfoldable pub toldRebuilt : List ℕ → Given → Counts → List ℕ
+toldRebuilt told g n = toldWords told g (countWords n)
+
+-- ---- a call that rebuilds a graph: the nine lists, the marks, and the answer with the counts
 pub record ToldSeen : Type 0 where
   pub lists : List (List ℕ)
   pub marks : List ℕ
@@ -52,3 +57,24 @@ pub told-listed-determined : (promised a b : ToldListed) → a ≡ promised → 
 told-listed-determined promised a b p q =
     let t = determined (λ (s : ToldListed). s) promised a b p q in
     (ap (λ (s : ToldListed). s .rebuilt) t, ap (λ (s : ToldListed). s .old) t)
+
+-- ---- a call that rebuilds no graph: the answer, the words that come with it, and the lists that it was lent to write
+pub record Handed : Type 0 where
+  pub given : Given
+  pub words : List ℕ
+  pub lists : List (List ℕ)
+
+pub record Shown : Type 0 where
+  pub lists : List (List ℕ)
+  pub told : List ℕ
+
+abbrev pub shown : List (List ℕ) → List ℕ → Shown
+shown lists told = record { lists = lists; told = told }
+
+unfoldable pub shownOf : Handed → List ℕ → Shown
+shownOf h told = shown (h .lists) (toldWords told (h .given) (h .words))
+
+pub shown-determined : (promised a b : Shown) → a ≡ promised → b ≡ promised → (a .lists ≡ b .lists) × (a .told ≡ b .told)
+shown-determined promised a b p q =
+    let t = determined (λ (s : Shown). s) promised a b p q in
+    (ap (λ (s : Shown). s .lists) t, ap (λ (s : Shown). s .told) t)

@@ -1,10 +1,11 @@
 // Numbers that pass between a caller and the library in slices of words: counts, and what a call answers.
 ghost use mathlib.Core.Path.{_≡_};
+ghost use mathlib.Core.List.{[], _∷_};
 ghost use lib.ListN.{getD, set};
 ghost use lib.Seq.{sets};
 ghost use Rattle.edge.specs.Answers.{told as toldOf};
 ghost use Rattle.lend_words.specs.Words.{countsIn, givenWords, countWords};
-ghost use Rattle.lend_words.specs.Told.{toldRebuilt};
+ghost use Rattle.lend_words.specs.Told.{toldWords, toldRebuilt};
 use edge::Answer;
 use graph::Counts;
 use renumber::Rebuilt;
@@ -71,6 +72,14 @@ pub fn tell_counts(words: &mut [u64], n: Counts)
     put(words, 10, n.sets as u64);
     put(words, 11, n.edges as u64);
     put(words, 12, n.fairness as u64);
+}
+
+// Writes an answer, and behind it the word that comes with it.
+pub fn tell_word(words: &mut [u64], a: Answer, w: u64)
+    ensures { λ _. ⌜ now (words .exit) ≡ toldWords (now (words .entry)) (toldOf a) (w ∷ []) ⌝ }
+{
+    tell(words, a);
+    put(words, 4, w);
 }
 
 // Writes what a call that rebuilds a graph answers: the answer, then the counts.

@@ -2,11 +2,12 @@
 mod table;
 
 pub use table::words;
-ghost use Rattle.marked.specs.Same.{Tells};
+ghost use mathlib.Core.Path.{_≡_};
+ghost use Rattle.marked.specs.Same.{sameWords};
 
 // Are these the same words?
 pub fn same(a: &[u32], b: &[u32]) -> bool
-    ensures { λ r. ⌜ Tells r (now (a .entry)) (now (b .entry)) ⌝ }
+    ensures { λ r. ⌜ r ≡ sameWords (now (a .entry)) (now (b .entry)) ⌝ }
 {
     if a.len() != b.len() {
         return false;

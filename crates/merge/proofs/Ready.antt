@@ -3,24 +3,29 @@
 use Prim.Native.Nat.{ℕ, _+_, _-_, _*_, _/_, _≤_, _<_}
 use native.Mathlib.Omega.{arith}
 use native.Mathlib.Nat.{le-of-eq}
-use mathlib.Core.Path.{_≡_, sym, ap, _∙_}
-use mathlib.Core.Bool.{Bool, true, false, cond}
+use mathlib.Core.Path.{_≡_, refl, sym, ap, _∙_}
+use mathlib.Core.Bool.{Bool, true, false, cond, _||_}
+use mathlib.Core.Logic.{inl, inr, ⊎-elim}
 use mathlib.Core.List.{List, _++_}
 use lib.ListN.{length, getD, set, take, drop, replicate, length-drop}
 use lib.Seq.{getD-drop, take-all}
-use lib.Dec.{eqb}
+use lib.Dec.{eqb, ltb}
+use borrow.Author.Tests.{ltb-true, ltb-false, eqb-true, eqb-false, eq-eqb, ne-eqb}
+use Rattle.edge.specs.Edges.{idOf}
+use Rattle.edge.proofs.Tests.{either, false-true}
 use Rattle.rows.specs.Sizes.{maxRows}
+use Rattle.rows.specs.Rows.{none}
 use Rattle.graph.specs.declared.Counts.{Counts}
 use Rattle.graph.specs.Graph.{Lent, Sized}
 use Rattle.graph.specs.Check.{cleared}
 use Rattle.renumber.specs.Writing.{written}
-use Rattle.renumber.specs.Renumber.{edgesOf, idsOf, Lists, listsOf, renumber, graphOf, by, IdsReady, EdgesReady, ListsReady}
+use Rattle.renumber.specs.Renumber.{renamed, edgesOf, idsOf, Lists, listsOf, renumber, graphOf, by, IdsReady, ListsReady}
 use Rattle.renumber.specs.Map.{Holds, Small, ListsRoom}
 use Rattle.renumber.specs.Room.{Room}
 use Rattle.renumber.proofs.Writing.{written-turn, written-same, written-at, written-drop}
-use Rattle.renumber.proofs.Mapping.{lists-used, renamed-by, renumber-by, known, mapped, lists-ready}
+use Rattle.renumber.proofs.Mapping.{lists-used, renumber-by, known, lists-ready}
 use Rattle.renumber.proofs.Rowing.{Reaches, words-reach}
-use Rattle.merge.specs.Merge.{shifted, offset, summed, merged, MergeLent, Addable}
+use Rattle.merge.specs.Merge.{shifted, offset, summed, merged, MergeLent, Addable, Movable, RowsReady}
 
 -- ---- counts of right sizes can be added
 pub addable : (g : Lent) (marks : ℕ) → Sized g marks → Addable (g .counts)
@@ -65,6 +70,34 @@ module _ (a : Lent) (n : Counts) (r : Room a (summed (a .counts) n)) where
 pub tail : (n : ℕ) (list : List ℕ) → take (length list - n) (drop n list) ≡ drop n list
 tail n list = take-all (length list - n) (drop n list) (le-of-eq (length-drop n list))
 
+-- ---- a word moved
+module _ (n e : ℕ) where
+  pub moved-kept : ltb e 2 || eqb e none ≡ true → e ≡ renamed (shifted n) e
+  unfolding renamed shifted
+  moved-kept h =
+      ⊎-elim
+      (λ (t : ltb e 2 ≡ true).
+      let l : e < 2 = ltb-true e 2 t in
+      let z : idOf e ≡ 0 = omega arith in
+      rw (ne-eqb e none (λ (q : e ≡ none). absurd (omega arith)), eq-eqb (idOf e) 0 z) (omega arith))
+      (λ (t : eqb e none ≡ true). rw t (eqb-true e none t))
+      (either {a = ltb e 2} h)
+
+  moves : ltb e 2 || eqb e none ≡ false → (2 ≤ e) × (eqb e none ≡ false)
+  moves = go (ltb e 2) refl
+    where
+      go : (t : Bool) → ltb e 2 ≡ t → t || eqb e none ≡ false → (2 ≤ e) × (eqb e none ≡ false)
+      go true q h = absurd (false-true (sym h))
+      go false q h = (ltb-false e 2 q, h)
+
+  module _ (h : ltb e 2 || eqb e none ≡ false) where
+    pub moved-on : e + 2 * n ≡ renamed (shifted n) e
+    unfolding renamed shifted
+    moved-on = let t = moves h in rw (t .1, ne-eqb (idOf e) 0 (λ (z : idOf e ≡ 0). absurd (omega (arith, t .0)))) (omega arith)
+
+    pub moved-small : Movable n e → idOf e + n ≤ maxRows
+    moved-small m = m (eqb-false e none (moves h .1))
+
 -- ---- the map
 -- a turn of the loop that fills it in
 pub filled-turn : (f : ℕ → ℕ) (marks : List ℕ) (j : ℕ) {now : List ℕ} {v : ℕ} → now ≡ written marks 0 f j → v ≡ f j → set now j v ≡ written marks 0 f (j + 1)
@@ -104,12 +137,20 @@ module _ (a b : Lent) (marks : ℕ) (l : MergeLent a b marks) where
   reach : (j : ℕ) → j < behind → Reaches used (getD (drop 2 (b .rows)) j 0)
   reach j h = rw (getD-drop 2 (b .rows) j 0) (words-reach (b .rows) used (l .second .rows) j (omega arith))
 
-  module _ (map : List ℕ) (h : Holds used m map) where
-    pub rows-by : written (a .rows) (2 * a .counts .rows) (edgesOf (by map) (drop 2 (b .rows))) behind ≡ written (a .rows) (2 * a .counts .rows) (edgesOf m (drop 2 (b .rows))) behind
-    rows-by =
-        written-same (a .rows) (2 * a .counts .rows) (edgesOf (by map) (drop 2 (b .rows))) (edgesOf m (drop 2 (b .rows))) behind
-        (λ j k. renamed-by used m map h (getD (drop 2 (b .rows)) j 0) (reach j k))
+  movable : (e : ℕ) → Reaches used e → Movable (offset a) e
+  movable e (inl q) n = absurd (n q)
+  movable e (inr k) n = omega (arith, few, l .sized .first .rows .some)
 
+  pub rows-ready : RowsReady (offset a) (a .rows) (2 * a .counts .rows) (drop 2 (b .rows)) behind
+  rows-ready =
+      record {
+        room = omega (arith, rows-room a (b .counts) (l .room), l .sized .first .rows .some, l .sized .second .rows .some);
+        has = rw (length-drop 2 (b .rows)) (omega (arith, l .sized .second .rows .fit .within));
+        small = omega (arith, few);
+        movable = λ j k. movable (getD (drop 2 (b .rows)) j 0) (reach j k);
+      }
+
+  module _ (map : List ℕ) (h : Holds used m map) where
     pub inputs-by : written (a .inputs) (a .counts .inputs) (idsOf (by map) (b .inputs)) (b .counts .inputs) ≡ written (a .inputs) (a .counts .inputs) (idsOf m (b .inputs)) (b .counts .inputs)
     inputs-by =
         written-same (a .inputs) (a .counts .inputs) (idsOf (by map) (b .inputs)) (idsOf m (b .inputs)) (b .counts .inputs)
@@ -119,14 +160,6 @@ module _ (a b : Lent) (marks : ℕ) (l : MergeLent a b marks) where
     lists-by = renumber-by used m map h (listsOf a) (a .counts) (listsOf b) (b .counts) (lists-used b marks (l .sized .second) (l .second))
 
     module _ (long : used ≤ length map) where
-      pub rows-ready : EdgesReady map (a .rows) (2 * a .counts .rows) (drop 2 (b .rows)) behind
-      rows-ready =
-          record {
-            room = omega (arith, rows-room a (b .counts) (l .room), l .sized .first .rows .some, l .sized .second .rows .some);
-            has = rw (length-drop 2 (b .rows)) (omega (arith, l .sized .second .rows .fit .within));
-            mapped = λ j k. mapped used m map h small long (getD (drop 2 (b .rows)) j 0) (reach j k);
-          }
-
       pub inputs-ready : IdsReady map (a .inputs) (a .counts .inputs) (b .inputs) (b .counts .inputs)
       inputs-ready =
           record {
@@ -143,9 +176,9 @@ module _ (a b : Lent) (marks : ℕ) (l : MergeLent a b marks) where
 
   -- ---- the whole
   pub whole : (map : List ℕ) → Holds used m map → {rows inputs : List ℕ} {ls : Lists}
-      → rows ≡ written (a .rows) (2 * a .counts .rows) (edgesOf (by map) (drop 2 (b .rows))) behind
+      → rows ≡ written (a .rows) (2 * a .counts .rows) (edgesOf m (drop 2 (b .rows))) behind
       → inputs ≡ written (a .inputs) (a .counts .inputs) (idsOf (by map) (b .inputs)) (b .counts .inputs)
       → ls ≡ renumber (by map) (listsOf a) (a .counts) (listsOf b) (b .counts)
       → graphOf rows inputs ls (summed (a .counts) (b .counts)) ≡ merged a b
   unfolding merged
-  whole map h p q r = rw (p ∙ rows-by map h, q ∙ inputs-by map h, r ∙ lists-by map h)
+  whole map h p q r = rw (p, q ∙ inputs-by map h, r ∙ lists-by map h)

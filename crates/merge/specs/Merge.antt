@@ -1,10 +1,14 @@
 -- What `merge` writes: the rows and entries of a second graph, renumbered, behind those of the first.
 -- Assumes nothing.
-use Prim.Native.Nat.{ℕ, _+_, _-_, _*_, _≤_}
+use Prim.Native.Nat.{ℕ, _+_, _-_, _*_, _≤_, _<_}
+use mathlib.Core.Path.{_≡_}
 use mathlib.Core.Bool.{cond}
-use lib.ListN.{drop}
+use mathlib.Core.List.{List}
+use lib.ListN.{length, getD, drop}
 use lib.Dec.{eqb}
+use Rattle.edge.specs.Edges.{idOf}
 use Rattle.rows.specs.Sizes.{maxRows}
+use Rattle.rows.specs.Rows.{none}
 use Rattle.graph.specs.declared.Counts.{Counts}
 use Rattle.graph.specs.Graph.{Lent}
 use Rattle.graph.specs.WellFormed.{WellFormed}
@@ -50,6 +54,17 @@ pub record MergeLent (a b : Lent) (marks : ℕ) : Type 0 where
   pub first : WellFormed a
   pub second : WellFormed b
   pub room : Room a (summed (a .counts) (b .counts))
+
+-- an edge that is a word `by` rows further, or none
+abbrev pub Movable : ℕ → ℕ → Type 0
+Movable by e = (e ≡ none → ⊥) → idOf e + by ≤ maxRows
+
+-- n words of rows can be moved, and there is room for them from `at` on
+pub record RowsReady (by : ℕ) (out : List ℕ) (at : ℕ) (list : List ℕ) (n : ℕ) : Type 0 where
+  pub room : at + n ≤ length out
+  pub has : n ≤ length list
+  pub small : by ≤ maxRows
+  pub movable : (j : ℕ) → j < n → Movable by (getD list j 0)
 
 -- counts that can be added
 pub record Addable (n : Counts) : Type 0 where

@@ -6,7 +6,8 @@ ghost use Rattle.rows.specs.Sizes.{maxRows};
 ghost use Rattle.graph.specs.Graph.{lent};
 ghost use Rattle.graph.specs.Check.{cleared, checkSeen};
 ghost use Rattle.renumber.specs.Writing.{written};
-ghost use Rattle.merge.specs.Merge.{shifted as shiftedBy, summed, merged, MergeLent, Addable};
+ghost use Rattle.renumber.specs.Renumber.{renamed, edgesOf};
+ghost use Rattle.merge.specs.Merge.{shifted as shiftedBy, summed, merged, MergeLent, Addable, Movable, RowsReady};
 ghost use Rattle.renumber.specs.Seen.{rebuiltSeen};
 ghost use Rattle.merge.specs.Call.{mergeChecked, mergeCall};
 use edge::Answer;
@@ -14,9 +15,9 @@ use graph::Counts;
 use graph::marks::clear;
 use renumber::Rebuilt;
 use renumber::output::has_room;
-use renumber::write_edges;
 use renumber::write_ids;
 use renumber::write_lists;
+use rows::kinds::NONE;
 
 // The new number of row i.
 fn shifted(i: usize, by: usize) -> u32
@@ -37,6 +38,27 @@ fn fill(map: &mut [u32], n: usize, by: usize)
 {
     for i in 0..n {
         map[i] = shifted(i, by);
+    }
+}
+
+// A word of a row, `by` rows further. Constants and the none word stay.
+fn moved(e: u32, by: u32) -> u32
+    requires { ⌜ Movable by e ⌝ }
+    ensures { λ r. ⌜ r ≡ renamed (shiftedBy by) e ⌝ }
+{
+    if (e < 2) | (e == NONE) {
+        return e;
+    }
+    e + 2 * by
+}
+
+// Writes n words of rows from place `at` on. They are many: adding is cheaper than reading the map.
+fn write_rows(out: &mut [u32], at: usize, list: &[u32], n: usize, by: usize)
+    requires { ⌜ RowsReady by (now out) at (now list) n ⌝ }
+    ensures { λ _. ⌜ now (out .exit) ≡ written (now (out .entry)) at (edgesOf (shiftedBy by) (now (list .entry))) n ⌝ }
+{
+    for j in 0..n {
+        out[at + j] = moved(list[j], by as u32);
     }
 }
 
@@ -174,12 +196,12 @@ fn write(
     ensures { λ _. ⌜ now (marks .exit) ≡ cleared (counts2 .rows) (now (marks .entry)) ⌝ }
 {
     fill(marks, counts2.rows, counts.rows - 1);
-    write_edges(
+    write_rows(
         rows,
         2 * counts.rows,
         &rows2[2..],
         2 * (counts2.rows - 1),
-        marks,
+        counts.rows - 1,
     );
     write_ids(inputs, counts.inputs, inputs2, counts2.inputs, marks);
     write_lists(

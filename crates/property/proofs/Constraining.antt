@@ -8,7 +8,7 @@ use mathlib.Core.Logic.{⊎-elim}
 use mathlib.Core.List.{List, []}
 use lib.ListN.{length}
 use lib.Dec.{eqb, ltb, leb}
-use borrow.Author.Tests.{eq-eqb, ne-eqb, eqb-true, ltb-true, leb-true}
+use borrow.Author.Tests.{not-true, not-false, eq-eqb, ne-eqb, eqb-true, ltb-true, leb-true}
 use Rattle.edge.specs.declared.answer.Answer.{Answer}
 use Rattle.edge.specs.Answers.{told}
 use Rattle.edge.proofs.Answers.{test-done, test-refused}
@@ -22,10 +22,10 @@ use Rattle.graph.specs.WellFormed.{WellFormed}
 use Rattle.gates.specs.Gates.{leafAdded}
 use Rattle.renumber.specs.declared.Rebuilt.{Rebuilt}
 use Rattle.renumber.specs.Seen.{rebuiltSeen}
-use Rattle.property.specs.GateInit.{Gating, gating, gateSteps, initsTaken, Part, part, partOf, withPart, gatedAll, gatedCounts, newLatch, gatedPart, noneGated, gateInit, gateRoom, gateInitChecked, gateInitCall, StepsReady, GateReady}
+use Rattle.property.specs.GateInit.{anyGated, Gating, gating, gateSteps, initsTaken, Part, part, partOf, withPart, gatedAll, gatedCounts, newLatch, gatedPart, noneGated, gateInit, gateRoom, gateInitChecked, gateInitCall, StepsReady, GateReady}
 use Rattle.property.specs.Meaning.{GateRoom}
 use Rattle.property.proofs.Answering.{Accepted, change-accepted}
-use Rattle.property.proofs.Gating.{Alike, steps-alike}
+use Rattle.property.proofs.Gating.{Alike, steps-alike, none-counted, some-counted}
 
 -- ---- the run on no rows and no constraints tells the need
 module _ (p : Part) where
@@ -48,17 +48,21 @@ module _ (p : Part) where
     unfolding gateRoom
     gate-room h = rw (← (alike .used), ← (e .0), ← (alike .count), ← (e .1)) h
 
-    counted : k ≡ gatedAll p .count
-    counted = e .1 ∙ alike .count
+  -- d says whether there is such a latch
+  module _ {d : Bool} (e : d ≡ anyGated (p .latches) (p .counts .latches)) where
+    pub write-none : not d ≡ true → p ≡ gateInit p
+    unfolding gateInit gatedAll
+    write-none h =
+        let q = none-counted used (p .latches) (gating (leafAdded (p .rows) used) (used + 1) (p .constraints) (p .counts .constraints)) (p .counts .latches) (sym e ∙ not-true d h) in
+        rw (eq-eqb (gatedAll p .count) (p .counts .constraints) q)
 
-    pub write-none : k ≡ p .counts .constraints → p ≡ gateInit p
-    unfolding gateInit
-    write-none q = rw (eq-eqb (gatedAll p .count) (p .counts .constraints) (sym counted ∙ q))
+    some-gated : not d ≡ false → noneGated p ≡ false
+    unfolding gatedAll
+    some-gated h =
+        let q = some-counted used (p .latches) (gating (leafAdded (p .rows) used) (used + 1) (p .constraints) (p .counts .constraints)) (p .counts .latches) (sym e ∙ not-false d h) in
+        ne-eqb (gatedAll p .count) (p .counts .constraints) (λ (z : gatedAll p .count ≡ p .counts .constraints). absurd (omega (arith, q)))
 
-    some-gated : (k ≡ p .counts .constraints → ⊥) → noneGated p ≡ false
-    some-gated n = ne-eqb (gatedAll p .count) (p .counts .constraints) (λ q. n (counted ∙ q))
-
-    module _ (n : k ≡ p .counts .constraints → ⊥) where
+    module _ (n : not d ≡ false) where
       pub write-room : GateReady p → latchWords * (p .counts .latches + 1) ≤ length (p .latches)
       write-room r = r .room (some-gated n)
 
@@ -67,9 +71,9 @@ module _ (p : Part) where
           → latches ≡ initsTaken (p .latches) (p .counts .latches) → last ≡ latchSet latches (p .counts .latches) (newLatch used) → m ≡ gatedCounts (p .counts) (s .used) (s .count)
           → part (s .rows) last (s .constraints) m ≡ gateInit p
       unfolding gateInit gatedPart gatedAll
-      write-done {rows} s a b c d f =
+      write-done {rows} s a b c w f =
           let g : s ≡ gateSteps used (p .latches) (gating (leafAdded (p .rows) used) (used + 1) (p .constraints) (p .counts .constraints)) (p .counts .latches) = rw a at b in
-          rw (some-gated n, d, c, f, g)
+          rw (some-gated n, w, c, f, g)
 
 -- ---- where the sizes are right and the graph is well-formed, the steps can be made
 pub steps-ready : (g : Lent) (marks : ℕ) → Sized g marks → WellFormed g → StepsReady (g .counts .rows + 1) (g .counts .rows) (g .latches) (g .counts .latches) (g .counts .constraints)

@@ -1,21 +1,23 @@
 -- Laws of the constraints that are made latch by latch.
 -- Assumes nothing.
-use Prim.Native.Nat.{ℕ, zero, suc, _+_, _*_, _≤_}
+use Prim.Native.Nat.{ℕ, zero, suc, _+_, _*_, _≤_, _<_}
 use native.Mathlib.Omega.{arith}
 use native.Mathlib.Numerals.{add-one}
-use mathlib.Core.Path.{_≡_, refl, ap, _∙_}
-use mathlib.Core.Bool.{Bool, true, false, cond, not}
+use mathlib.Core.Path.{_≡_, refl, sym, ap, _∙_}
+use mathlib.Core.Bool.{Bool, true, false, cond, not, _||_}
+use mathlib.Core.Logic.{⊎-elim}
 use mathlib.Core.List.{List, [], _∷_}
 use lib.ListN.{length, set, length-set}
 use borrow.Author.Tests.{not-true, not-false}
 use Rattle.edge.specs.Edges.{complement}
+use Rattle.edge.proofs.Tests.{either, or-right, false-true, lt-or-le}
 use Rattle.graph.specs.declared.latch.Latch.{Latch}
 use Rattle.graph.specs.Latches.{latchAt}
 use Rattle.gates.specs.Gates.{State, state, addAnd}
 use Rattle.gates.specs.Lists.{listOf, eqOf}
 use Rattle.gates.proofs.Building.{Like, Sized, and-sized}
 use Rattle.gates.proofs.Listing.{list-sized, list-like, eq-sized, eq-like, pair-or}
-use Rattle.property.specs.GateInit.{isGated, constraintOf, Gating, gating, gateStep, gateSteps}
+use Rattle.property.specs.GateInit.{isGated, anyGated, constraintOf, Gating, gating, gateStep, gateSteps}
 
 -- ---- the OR of two edges
 pub or-built : (rows : List ℕ) (used a b : ℕ) {m n e : ℕ} (s : State) → m ≡ complement a → n ≡ complement b → s ≡ addAnd rows used m n → e ≡ complement (s .edge)
@@ -57,6 +59,10 @@ module _ (new : ℕ) (s : Gating) (l : Latch) where
       → constraints ≡ set (s .constraints) (s .count) (c .edge) → gating (c .rows) (c .used) constraints (s .count + 1) ≡ gateStep new s l
   unfolding gateStep
   step-made {d} e h c constraints p q = rw (← e, not-false d h, q, p)
+
+  pub step-counts : isGated l ≡ true → gateStep new s l .count ≡ s .count + 1
+  unfolding gateStep
+  step-counts h = rw h
 
 -- it takes at most six rows and one constraint, and changes no length
 pub record Bounded (s : Gating) (n : ℕ) (t : Gating) : Type 0 where
@@ -120,6 +126,53 @@ module _ (new : ℕ) (latches : List ℕ) where
   unfolding gateSteps
   steps-alike s t a zero = a
   steps-alike s t a (suc n) = step-alike new (gateSteps new latches s n) (gateSteps new latches t n) (latchAt latches n) (steps-alike s t a n)
+
+-- ---- a constraint is added exactly if there is such a latch
+neither : {a b : Bool} → a || b ≡ false → (a ≡ false) × (b ≡ false)
+neither {a = false} {b} h = (refl, h)
+neither {a = true} {b} h = absurd (false-true (sym h))
+
+-- searching the latches in order
+pub any-start : (latches : List ℕ) → anyGated latches 0 ≡ false
+unfolding anyGated
+any-start latches = refl
+
+pub any-turn : (latches : List ℕ) (j : ℕ) {l : Latch} {d : Bool} → anyGated latches j ≡ false → l ≡ latchAt latches j → d ≡ isGated l → d ≡ false → anyGated latches (j + 1) ≡ false
+unfolding anyGated
+any-turn latches j e p q h = rw (add-one, e, ← p, ← q, h)
+
+pub any-found : (latches : List ℕ) (n j : ℕ) {l : Latch} {d : Bool} → j < n → l ≡ latchAt latches j → d ≡ isGated l → d ≡ true → anyGated latches n ≡ true
+unfolding anyGated
+any-found latches zero j lt p q h = absurd (omega arith)
+any-found latches (suc n) j lt p q h =
+    ⊎-elim
+    (λ (k : j < n). ap (λ (t : Bool). t || isGated (latchAt latches n)) (any-found latches n j k p q h))
+    (λ (k : n ≤ j). let e : n ≡ j = omega arith in or-right (anyGated latches n) (rw (e, ← p, ← q, h)))
+    (lt-or-le j n)
+
+module _ (new : ℕ) (latches : List ℕ) (s : Gating) where
+  steps-more : (n : ℕ) → s .count ≤ gateSteps new latches s n .count
+  unfolding gateSteps
+  steps-more zero = omega arith
+  steps-more (suc n) = omega (arith, steps-more n, step-bounded new (gateSteps new latches s n) (latchAt latches n) .counted)
+
+  pub none-counted : (n : ℕ) → anyGated latches n ≡ false → gateSteps new latches s n .count ≡ s .count
+  unfolding anyGated gateSteps
+  none-counted zero h = refl
+  none-counted (suc n) h =
+      let t = neither {a = anyGated latches n} {b = isGated (latchAt latches n)} h in
+      ap (λ (x : Gating). x .count) (sym (step-kept new (gateSteps new latches s n) (latchAt latches n) (sym (t .1)) refl)) ∙ none-counted n (t .0)
+
+  pub some-counted : (n : ℕ) → anyGated latches n ≡ true → s .count < gateSteps new latches s n .count
+  unfolding anyGated gateSteps
+  some-counted zero h = absurd (false-true h)
+  some-counted (suc n) h =
+      let x = gateSteps new latches s n in
+      let l = latchAt latches n in
+      ⊎-elim
+      (λ (k : anyGated latches n ≡ true). omega (arith, some-counted n k, step-bounded new x l .counted))
+      (λ (k : isGated l ≡ true). omega (arith, steps-more n, step-counts new x l k))
+      (either {a = anyGated latches n} {b = isGated l} h)
 
 pub turn-bounded : (new : ℕ) (s t : Gating) (l : Latch) → t ≡ gateStep new s l → Bounded s 1 t
 turn-bounded new s t l e = rw e (step-bounded new s l)

@@ -27,6 +27,11 @@ use Rattle.property.specs.Checking.{changeChecked}
 unfoldable pub isGated : Latch → Bool
 isGated l = not (eqb (l .init) none) && not (eqb (idOf (l .init)) 0)
 
+-- is there such a latch among the first n?
+unfoldable pub anyGated : List ℕ → ℕ → Bool
+anyGated latches zero = false
+anyGated latches (suc n) = anyGated latches n || isGated (latchAt latches n)
+
 -- "new latch implies latch equals init", as `new_eq_node` and then `new_imply_node` build it; `new` is the new latch's row
 unfoldable pub constraintOf : List ℕ → ℕ → ℕ → Latch → State
 constraintOf rows used new l =

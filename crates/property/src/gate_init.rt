@@ -10,7 +10,7 @@ ghost use Rattle.graph.specs.Check.{checkSeen};
 ghost use Rattle.gates.specs.Gates.{stepLimit, stateOf};
 ghost use Rattle.gates.specs.Lists.{listOf};
 ghost use Rattle.renumber.specs.Seen.{rebuiltSeen};
-ghost use Rattle.property.specs.GateInit.{isGated, constraintOf, gating, gatingOf, gateStep, gateSteps, initless, initsTaken, part, gatedCounts, gateInit, gateInitChecked, gateInitCall, ConstraintReady, StepReady, StepsReady, GateReady};
+ghost use Rattle.property.specs.GateInit.{isGated, anyGated, constraintOf, gating, gatingOf, gateStep, gateSteps, initless, initsTaken, part, gatedCounts, gateInit, gateInitChecked, gateInitCall, ConstraintReady, StepReady, StepsReady, GateReady};
 use edge::Answer;
 use gates::Grown;
 use gates::add_and;
@@ -34,6 +34,19 @@ fn is_gated(l: Latch) -> bool
     ensures { λ r. ⌜ r ≡ isGated l ⌝ }
 {
     (l.init != NONE) & (l.init / 2 != 0)
+}
+
+// Is there such a latch among the first n?
+fn any_gated(latches: &[u32], n: usize) -> bool
+    requires { ⌜ latchWords * n ≤ length (now latches) ⌝ }
+    ensures { λ r. ⌜ r ≡ anyGated (now (latches .entry)) n ⌝ }
+{
+    for j in 0..n {
+        if is_gated(latch_at(latches, j)) {
+            return true;
+        }
+    }
+    false
 }
 
 // The OR of two edges. A need may pass the most rows that can be lent, where `gates::lists::add_eq` may not start; an AND may.
@@ -238,7 +251,7 @@ fn write(rows: &mut [u32], latches: &mut [u32], constraints: &mut [u32], counts:
 {
     let used = counts.rows;
     let n = counts.latches;
-    if need(used, latches, n, counts.constraints).count == counts.constraints {
+    if !any_gated(latches, n) {
         return counts;
     }
     let new = used as u32;

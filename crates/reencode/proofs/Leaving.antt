@@ -1,6 +1,6 @@
 -- The used rows, counted: row 0, the listed leaves, the orphans and the gates.
 -- Assumes nothing.
-use Prim.Native.Nat.{ℕ, zero, suc, _+_, _-_, _≤_, _<_}
+use Prim.Native.Nat.{ℕ, zero, suc, _+_, _-_, _*_, _≤_, _<_}
 use native.Mathlib.Omega.{arith}
 use mathlib.Core.Path.{_≡_, refl, sym, ap, _∙_}
 use mathlib.Core.Bool.{Bool, true, false, not, _&&_, _||_}
@@ -8,9 +8,10 @@ use mathlib.Core.Logic.{_⊎_, inl, inr, ⊎-elim}
 use mathlib.Core.List.{List}
 use lib.ListN.{length, getD}
 use lib.Dec.{ltb, eqb}
-use borrow.Author.Tests.{le-ltb, lt-ltb, eqb-true}
+use borrow.Author.Tests.{le-ltb, lt-ltb, ltb-true, eqb-true, ne-eqb}
 use Rattle.edge.proofs.Tests.{both, either, or-right, lt-or-le}
-use Rattle.rows.specs.Rows.{word0, word1, falseWord, isFalseRow, isLeaf, isGate, isRow, leafAt, gateAt}
+use Rattle.rows.specs.Sizes.{maxRows}
+use Rattle.rows.specs.Rows.{word0, word1, falseWord, none, isFalseRow, isLeaf, isGate, isRow, leafAt, gateAt, AllRows}
 use Rattle.rows.proofs.Value.{leaf-no-gate}
 use Rattle.graph.specs.Leaves.{member}
 use Rattle.graph.specs.Graph.{Lent, Sized}
@@ -28,6 +29,23 @@ zero-no-gate rows = rw (le-ltb (word0 rows 0) 0 (omega arith))
 pub zero-no-leaf : (rows : List ℕ) → leafAt rows 0 ≡ false
 unfolding isLeaf
 zero-no-leaf rows = refl
+
+-- ---- of well-formed rows a leaf alone has the none word
+pub none-leaf : (rows : List ℕ) (used i : ℕ) → used ≤ maxRows → AllRows rows used → i < used → word0 rows i ≡ none → leafAt rows i ≡ true
+unfolding isRow isFalseRow isGate
+none-leaf rows used i few all l e =
+    ⊎-elim
+    (λ h. ⊎-elim (λ z. absurd (omega (arith, e, eqb-true (word0 rows i) falseWord (both {a = eqb i 0} {b = eqb (word0 rows i) falseWord} (both {a = eqb i 0 && eqb (word0 rows i) falseWord} {b = eqb (word1 rows i) 0} z .0) .1)))) (λ k. k) (either {a = isFalseRow i (word0 rows i) (word1 rows i)} h))
+    (λ k. absurd (omega (arith, e, ltb-true (word0 rows i) (2 * i) (both {a = ltb (word0 rows i) (2 * i)} {b = ltb (word1 rows i) (2 * i)} k .0))))
+    (either {a = isFalseRow i (word0 rows i) (word1 rows i) || isLeaf i (word0 rows i) (word1 rows i)} (all i l))
+
+pub else-no-leaf : (rows : List ℕ) (i : ℕ) → (word0 rows i ≡ none → ⊥) → leafAt rows i ≡ false
+unfolding isLeaf
+else-no-leaf rows i n = rw (ne-eqb (word0 rows i) none n) (go (ltb 0 i))
+  where
+    go : (t : Bool) → t && false && eqb (word1 rows i) 0 ≡ false
+    go true = refl
+    go false = refl
 
 -- how many rows stand behind row 0
 behind-zero : (n : ℕ) → 0 < n → 1 + countBelow (λ (i : ℕ). ltb 0 i) n ≡ n

@@ -111,6 +111,7 @@ module _ (rows : List ℕ) (first : ℕ) (old : List ℕ) (i : ℕ) {k : ℕ} {m
         row = omega (arith, r .rows-long);
         mark = omega (arith, r .marks-long);
         few = omega (arith, r .few, count-rises (gateAt rows) used i (omega arith));
+        small = omega (arith, r .used-few);
         known = known i m marks (h .below) (λ x b. r .small x (omega arith)) (omega (arith, r .marks-long));
       }
 

@@ -80,6 +80,7 @@ module _ (rows inputs latches : List ℕ) (n : Counts) (marks : List ℕ) (r : R
             rows-long = r .rows-long;
             marks-long = omega (arith, r .marks-long, two-long);
             few = r .few;
+            used-few = r .rows-few;
             small = numbered-small rows (n .rows) (firstGate n) (by two) (r .few) (λ x l. rw (leaves-held x l) (omega (arith, place-bound 1 list x, long, r .few)));
           }
 
@@ -108,6 +109,7 @@ rows-ready g k s w marks l z =
       marks-long = l;
       zeros = z;
       few = omega (arith, rows-counted g k s w, s .rows .fit .within, s .rows .fit .limited);
+      rows-few = omega (arith, s .rows .fit .within, s .rows .fit .limited);
       used = λ j h. listed-leaf g k s w j h .0;
       once = w .once;
     }

@@ -1,6 +1,7 @@
 -- Laws of the loops.
 -- Assumes nothing.
-use Prim.Native.Nat.{ℕ, suc, _+_, _<_}
+use Prim.Native.Nat.{ℕ, suc, _+_, _≤_, _<_}
+use native.Mathlib.Omega.{arith}
 use native.Mathlib.Numerals.{add-one}
 use mathlib.Core.Path.{_≡_, refl, sym, ap, _∙_}
 use mathlib.Core.Bool.{Bool, true, false, cond, not}
@@ -8,11 +9,12 @@ use mathlib.Core.List.{List}
 use lib.ListN.{set}
 use borrow.Author.Tests.{not-true, not-false}
 use Rattle.edge.specs.Edges.{idOf}
+use Rattle.rows.specs.Sizes.{maxRows}
 use Rattle.rows.specs.Rows.{none, word0, word1, gateAt}
 use Rattle.rows.proofs.Laws.{gate-below}
 use Rattle.gates.specs.declared.Grown.{Grown}
 use Rattle.gates.specs.Gates.{State, stateOf, rowAdded, addGate}
-use Rattle.renumber.specs.Renumber.{renamed, Known, Mapped}
+use Rattle.renumber.specs.Renumber.{renamed, Known, MappedEdge}
 use Rattle.graph.specs.Count.{countBelow}
 use Rattle.graph.proofs.Counting.{count-more}
 use Rattle.reencode.specs.Rebuilding.{leavesAdded, gateAdded}
@@ -35,10 +37,10 @@ module _ (rows : List ℕ) (i : ℕ) {t : Bool} (e : t ≡ gateAt rows i) where
   gate-is : not t ≡ false → gateAt rows i ≡ true
   gate-is h = sym e ∙ not-false t h
 
-  pub gate-mapped : not t ≡ false → (marks : List ℕ) → ((j : ℕ) → j < i → Known marks j) → Mapped marks (word0 rows i) × Mapped marks (word1 rows i)
-  gate-mapped h marks k =
+  pub gate-mapped : not t ≡ false → (marks : List ℕ) → i ≤ maxRows → ((j : ℕ) → j < i → Known marks j) → MappedEdge marks (word0 rows i) × MappedEdge marks (word1 rows i)
+  gate-mapped h marks l k =
       let b = gate-below i (word0 rows i) (word1 rows i) (gate-is h) in
-      ((λ _. k (idOf (word0 rows i)) (b .0)), (λ _. k (idOf (word1 rows i)) (b .1)))
+      (record { edge = omega (arith, b .0); known = k (idOf (word0 rows i)) (b .0) }, record { edge = omega (arith, b .1); known = k (idOf (word1 rows i)) (b .1) })
 
   module _ (m : ℕ → ℕ) (k : ℕ) (out marks : List ℕ) where
     pub gate-passed : not t ≡ true

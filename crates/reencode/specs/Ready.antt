@@ -25,6 +25,7 @@ pub record GateReady (rows : List ℕ) (i k : ℕ) (marks : List ℕ) : Type 0 w
   pub row : 2 * i + 1 < length rows
   pub mark : i < length marks
   pub few : k ≤ maxRows
+  pub small : i ≤ maxRows
   pub known : (j : ℕ) → j < i → Known marks j
 
 -- the other rows are numbered
@@ -32,6 +33,7 @@ pub record GatesReady (rows : List ℕ) (used first : ℕ) (marks : List ℕ) : 
   pub rows-long : 2 * used ≤ length rows
   pub marks-long : used ≤ length marks
   pub few : first + gatesBelow rows used ≤ maxRows
+  pub used-few : used ≤ maxRows
   pub small : Small used (numbered rows first (by marks))
 
 -- no row is numbered: the marks are 0
@@ -42,6 +44,7 @@ pub record RowsReady (rows inputs latches : List ℕ) (n : Counts) (marks : List
   pub marks-long : n .rows ≤ length marks
   pub zeros : Holds (n .rows) (λ (_ : ℕ). 0) marks
   pub few : firstGate n + gatesBelow rows (n .rows) ≤ maxRows
+  pub rows-few : n .rows ≤ maxRows
   pub used : (j : ℕ) → j < length (leafList inputs (n .inputs) latches (n .latches)) → getD (leafList inputs (n .inputs) latches (n .latches)) j 0 < n .rows
   pub once : (i j : ℕ) → i < j → j < length (leafList inputs (n .inputs) latches (n .latches))
       → getD (leafList inputs (n .inputs) latches (n .latches)) i 0 ≡ getD (leafList inputs (n .inputs) latches (n .latches)) j 0 → ⊥

@@ -10,7 +10,7 @@ ghost use Rattle.reencode.specs.Numbers.{numbered};
 ghost use Rattle.reencode.specs.Rebuilding.{gateAdded, gatesAdded};
 ghost use Rattle.reencode.specs.Ready.{GateReady, GatesReady};
 use gates::add_gate;
-use renumber::renamed;
+use renumber::renamed_edge;
 use rows::kinds::is_gate;
 
 // Row i, if it is a gate, becomes row k; the number of the next gate.
@@ -25,8 +25,8 @@ fn rebuild_gate(rows: &[u32], i: usize, out: &mut [u32], k: usize, marks: &mut [
     if !is_gate(i, a, b) {
         return k;
     }
-    let x = renamed(a, marks);
-    let y = renamed(b, marks);
+    let x = renamed_edge(a, marks);
+    let y = renamed_edge(b, marks);
     marks[i] = k as u32;
     let grown = add_gate(out, k, x, y);
     grown.used

@@ -3,7 +3,7 @@ ghost use mathlib.Core.Path.{_≡_};
 ghost use Prim.Native.Nat.{ℕ, _+_, _*_, _≤_};
 ghost use lib.ListN.{length, getD};
 ghost use Rattle.rows.specs.Sizes.{maxRows};
-ghost use Rattle.rows.specs.Rows.{leafAt};
+ghost use Rattle.rows.specs.Rows.{leafAt, AllRows};
 ghost use Rattle.graph.specs.Latches.{latchWords, latchAt};
 ghost use Rattle.graph.specs.Count.{countBelow};
 ghost use Rattle.reencode.specs.Numbers.{placed};
@@ -13,13 +13,16 @@ use gates::add_row;
 use graph::latch::latch_at;
 use rows::kinds;
 
+// Of well-formed rows a leaf alone has the none word: nothing else need be asked.
 pub fn count_leaves(rows: &[u32], used: usize) -> usize
     requires { ⌜ 2 * used ≤ length (now rows) ⌝ }
+    requires { ⌜ used ≤ maxRows ⌝ }
+    requires { ⌜ AllRows (now rows) used ⌝ }
     ensures { λ r. ⌜ r ≡ countBelow (leafAt (now (rows .entry))) used ⌝ }
 {
     let mut n: usize = 0;
     for i in 0..used {
-        if kinds::is_leaf(i, rows[2 * i], rows[2 * i + 1]) {
+        if rows[2 * i] == kinds::NONE {
             n += 1;
         }
     }

@@ -84,6 +84,11 @@ pub record Known (map : List ℕ) (i : ℕ) : Type 0 where
   pub has : i < length map
   pub small : by map i ≤ maxRows
 
+-- an edge to such a row
+pub record MappedEdge (map : List ℕ) (e : ℕ) : Type 0 where
+  pub edge : e < none
+  pub known : Known map (idOf e)
+
 -- an edge to such a row, or none
 abbrev pub Mapped : List ℕ → ℕ → Type 0
 Mapped map e = (e ≡ none → ⊥) → Known map (idOf e)

@@ -4,7 +4,7 @@ pub mod output;
 ghost use mathlib.Core.Path.{_≡_};
 ghost use Prim.Native.Nat.{_+_, _*_, _<_, _^_};
 ghost use Rattle.renumber.specs.Writing.{written};
-ghost use Rattle.renumber.specs.Renumber.{renamed as renamedBy, renamedLatch, edgesOf, idsOf, endsOf, latchesWritten, lists, renumber, by, Mapped, MappedLatch, IdsReady, EdgesReady, LatchesReady, EndsReady, ListsReady};
+ghost use Rattle.renumber.specs.Renumber.{renamed as renamedBy, renamedLatch, edgesOf, idsOf, endsOf, latchesWritten, lists, renumber, by, Mapped, MappedEdge, MappedLatch, IdsReady, EdgesReady, LatchesReady, EndsReady, ListsReady};
 use edge::Answer;
 use graph::Counts;
 use graph::latch::Latch;
@@ -18,7 +18,15 @@ pub struct Rebuilt {
     pub counts: Counts,
 }
 
-// The edge to the new number of its row, with its sign. The none word stays.
+// The edge to the new number of its row, with its sign. It is not the none word: the words of a gate never are.
+pub fn renamed_edge(e: u32, map: &[u32]) -> u32
+    requires { ⌜ MappedEdge (now map) e ⌝ }
+    ensures { λ r. ⌜ r ≡ renamedBy (by (now (map .entry))) e ⌝ }
+{
+    2 * map[(e / 2) as usize] + e % 2
+}
+
+// The same, where the word may be none, which stays.
 pub fn renamed(e: u32, map: &[u32]) -> u32
     requires { ⌜ Mapped (now map) e ⌝ }
     ensures { λ r. ⌜ r ≡ renamedBy (by (now (map .entry))) e ⌝ }
@@ -26,7 +34,7 @@ pub fn renamed(e: u32, map: &[u32]) -> u32
     if e == NONE {
         return e;
     }
-    2 * map[(e / 2) as usize] + e % 2
+    renamed_edge(e, map)
 }
 
 // Writes n edges from place `at` on. A leaf's row is such a pair of words too: none and 0 stay.

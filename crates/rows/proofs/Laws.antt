@@ -4,7 +4,7 @@ use Prim.Native.Nat.{ℕ, _+_, _*_, _/_, _≤_, _<_}
 use native.Mathlib.Omega.{arith}
 use mathlib.Core.Path.{_≡_, refl, sym, ap, _∙_}
 use mathlib.Core.List.{List}
-use mathlib.Core.Bool.{Bool, true, false, cond, not, _&&_}
+use mathlib.Core.Bool.{Bool, true, false, cond, not, _&&_, _||_}
 use lib.ListN.{length}
 use lib.Dec.{ltb, leb, eqb}
 use borrow.Author.Tests.{lt-ltb, le-ltb, ltb-true, ltb-false, leb-true, eqb-true}
@@ -14,7 +14,7 @@ use Rattle.edge.specs.Edges.{BoolSeen, boolSeen}
 use Rattle.edge.proofs.Tests.{both, false-true}
 use Rattle.edge.proofs.Answers.{none-of-two}
 use Rattle.rows.specs.Sizes.{fits, Fit, rowsLent, rowsFit, RowsFit, maxRows}
-use Rattle.rows.specs.Rows.{isGate, gateAt}
+use Rattle.rows.specs.Rows.{isGate, larger, gateAt}
 use Rattle.rows.specs.Reading.{rowRead, gateRead, ifDone, isAndCall}
 
 -- ---- sizes
@@ -37,6 +37,35 @@ id-below a i = go (ltb (a / 2) i) refl
     go : (t : Bool) → ltb (a / 2) i ≡ t → t ≡ ltb a (2 * i)
     go true h = let l = ltb-true (a / 2) i h in let m : a < 2 * i = omega arith in sym (lt-ltb a (2 * i) m)
     go false h = let l = ltb-false (a / 2) i h in let m : 2 * i ≤ a = omega arith in sym (le-ltb a (2 * i) m)
+
+-- both words are below k exactly if the larger one is
+pub larger-below : (a b k : ℕ) → ltb (larger a b) k ≡ (ltb a k && ltb b k)
+larger-below a b k = go (ltb a b) refl (ltb a k) refl (ltb b k) refl
+  where
+    go : (s : Bool) → ltb a b ≡ s → (t : Bool) → ltb a k ≡ t → (u : Bool) → ltb b k ≡ u → ltb (cond s b a) k ≡ (t && u)
+    go true p true q u r = r
+    go true p false q true r =
+        let x = ltb-true a b p in let y = ltb-true b k r in let z = ltb-false a k q in absurd (omega arith)
+    go true p false q false r = r
+    go false p true q true r = q
+    go false p true q false r =
+        let x = ltb-false a b p in let y = ltb-true a k q in let z = ltb-false b k r in absurd (omega arith)
+    go false p false q u r = q
+
+pub gate-by-larger : (i a b : ℕ) {w : ℕ} → w ≡ larger a b → isGate i a b ≡ ltb (w / 2) i
+unfolding isGate
+gate-by-larger i a b p = rw p (sym (id-below (larger a b) i ∙ larger-below a b (2 * i)))
+
+-- a row is asked for as a gate first
+pub gate-first : (f l : Bool) → (f || l || true) ≡ true
+gate-first true l = refl
+gate-first false true = refl
+gate-first false false = refl
+
+pub gate-else : (f l : Bool) → (f || l || false) ≡ (f || l)
+gate-else true l = refl
+gate-else false true = refl
+gate-else false false = refl
 
 -- the edges of a gate go to rows below it
 pub gate-below : (i a b : ℕ) → isGate i a b ≡ true → (a / 2 < i) × (b / 2 < i)

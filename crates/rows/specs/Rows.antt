@@ -2,7 +2,7 @@
 -- Assumes nothing.
 use Prim.Native.Nat.{ℕ, _+_, _*_, _<_}
 use mathlib.Core.List.{List}
-use mathlib.Core.Bool.{Bool, true, _&&_, _||_}
+use mathlib.Core.Bool.{Bool, true, cond, _&&_, _||_}
 use mathlib.Core.Path.{_≡_}
 use lib.ListN.{getD}
 use lib.Dec.{ltb, eqb}
@@ -33,6 +33,9 @@ isLeaf i a b = ltb 0 i && eqb a none && eqb b 0
 -- "A gate at row i is two edge codes, each below 2·i"
 unfoldable pub isGate : ℕ → ℕ → ℕ → Bool
 isGate i a b = ltb a (2 * i) && ltb b (2 * i)
+
+abbrev pub larger : ℕ → ℕ → ℕ
+larger a b = cond (ltb a b) b a
 
 -- "Nothing else is a row"
 unfoldable pub isRow : ℕ → ℕ → ℕ → Bool

@@ -1,23 +1,31 @@
 -- Laws of stores in a run, and of the words of clauses.
 -- Assumes nothing.
-use Prim.Native.Nat.{ℕ, suc, _+_}
+use Prim.Native.Nat.{ℕ, suc, _+_, _<_}
 use native.Mathlib.Omega.{arith}
 use native.Mathlib.Nat.{add-zero}
 use native.Mathlib.Numerals.{towards-suc}
 use mathlib.Core.Path.{_≡_, refl, sym, ap, _∙_}
 use mathlib.Core.List.{List, [], _∷_, _++_, map}
-use lib.ListN.{length, getD, set}
+use lib.ListN.{length, getD, set, length-append}
 use lib.Seq.{sets}
 use Rattle.edge.specs.Edges.{complement}
 use Rattle.shapes.specs.declared.Shape.{Shape}
 use Rattle.shapes.specs.declared.Shape.the-variants.{Unwritten, Plain, Xor, Ite}
-use Rattle.shapes.specs.Shapes.{clausesOf, unit, words}
+use Rattle.shapes.specs.Shapes.{clausesOf, unit, words, WrittenIfRoom}
 
 pub sets-both : (l xs ys : List ℕ) (i : ℕ) → sets l i (xs ++ ys) ≡ sets (sets l i xs) (i + length xs) ys
 sets-both l [] ys i = rw add-zero
 sets-both l (x ∷ xs) ys i = sets-both (set l i x) xs ys (suc i) ∙ ap (λ (k : ℕ). sets (sets (set l i x) (suc i) xs) k ys) (omega arith)
 
+-- ---- no room for k words: nothing is asked
+pub no-room : (before : List ℕ) (at : ℕ) (ws : List ℕ) {after : List ℕ} {k : ℕ} → length ws ≡ k → length before < at + k → WrittenIfRoom before at ws after
+no-room before at ws e l = λ r. absurd (omega (arith, e, l, r))
+
 -- ---- one clause
+pub unit-long : length (words (unit ∷ [])) ≡ 2
+unfolding words
+unit-long = refl
+
 pub put-unit : (l : List ℕ) → set (set l 0 1) 1 1 ≡ sets l 0 (words (unit ∷ []))
 unfolding words
 put-unit l = refl
@@ -56,6 +64,20 @@ put-four (a ∷ b ∷ c ∷ d ∷ []) z l o₁ o₂ o₃ o₄ at h p q r s =
     ∙ (next o₁ b (c ∷ d ∷ []) (at + 4) (at + 8) 3 (cc) (omega arith) q
     ∙ next l a (b ∷ c ∷ d ∷ []) at (at + 4) 3 (cc) (omega arith) p)))
 put-four (a ∷ b ∷ c ∷ d ∷ e ∷ cs) z l o₁ o₂ o₃ o₄ at h p q r s = cc
+
+pub four-long : (cs : List (List ℕ)) → map length cs ≡ 3 ∷ 3 ∷ 3 ∷ 3 ∷ [] → length (words cs) ≡ 16
+unfolding words
+four-long [] h = cc
+four-long (a ∷ []) h = cc
+four-long (a ∷ b ∷ []) h = cc
+four-long (a ∷ b ∷ c ∷ []) h = cc
+four-long (a ∷ b ∷ c ∷ d ∷ []) h =
+    let p : length a ≡ 3 = cc in
+    let q : length b ≡ 3 = cc in
+    let r : length c ≡ 3 = cc in
+    let s : length d ≡ 3 = cc in
+    rw (length-append, length-append, length-append, length-append) (omega (arith, p, q, r, s))
+four-long (a ∷ b ∷ c ∷ d ∷ e ∷ cs) h = cc
 
 pub put-plain : (l o₁ o₂ o₃ : List ℕ) (at g a b : ℕ) {ng na nb : ℕ} → ng ≡ complement g → na ≡ complement a → nb ≡ complement b
     → o₁ ≡ sets l at (2 ∷ ng ∷ a ∷ []) → o₂ ≡ sets o₁ (at + 3) (2 ∷ ng ∷ b ∷ []) → o₃ ≡ sets o₂ (at + 6) (3 ∷ g ∷ na ∷ nb ∷ [])
@@ -104,9 +126,12 @@ module _ (g : ℕ) {s : Shape} where
   unfolding words clausesOf
   size-ite c t e q = rw q
 
-  pub put-none : (l : List ℕ) (at : ℕ) → s ≡ Unwritten → l ≡ sets l at (words (clausesOf g s))
+  pub put-none : (l : List ℕ) (at : ℕ) → s ≡ Unwritten → WrittenIfRoom l at (words (clausesOf g s)) l
   unfolding words clausesOf
-  put-none l at e = rw e
+  put-none l at e = rw e (λ _. refl)
 
-  pub put-same : (l : List ℕ) (at : ℕ) {o : List ℕ} {s′ : Shape} {cs : List (List ℕ)} → s ≡ s′ → cs ≡ clausesOf g s′ → o ≡ sets l at (words cs) → o ≡ sets l at (words (clausesOf g s))
-  put-same l at e p q = q ∙ rw (p, e)
+  pub put-same : (l : List ℕ) (at : ℕ) {o : List ℕ} {s′ : Shape} {cs : List (List ℕ)} → s ≡ s′ → cs ≡ clausesOf g s′ → WrittenIfRoom l at (words cs) o → WrittenIfRoom l at (words (clausesOf g s)) o
+  put-same l at e p q = rw (e, ← p) q
+
+  pub behind-none : (at : ℕ) → s ≡ Unwritten → at ≡ at + length (words (clausesOf g s))
+  behind-none at e = omega (arith, size-unwritten e)

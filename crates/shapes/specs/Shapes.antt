@@ -1,9 +1,11 @@
 -- What a gate is written as, and its clauses: "a clause is a length word and literals; literal codes are edge codes".
 -- Assumes nothing.
-use Prim.Native.Nat.{ℕ}
+use Prim.Native.Nat.{ℕ, _+_, _≤_}
+use mathlib.Core.Path.{_≡_}
 use mathlib.Core.Bool.{Bool, cond, not, _&&_, _||_}
 use mathlib.Core.List.{List, [], _∷_, _++_}
 use lib.ListN.{length}
+use lib.Seq.{sets}
 use lib.Dec.{eqb}
 use Rattle.edge.specs.Edges.{idOf, isComplemented, complement}
 use Rattle.rows.specs.Rows.{word0, word1, gateAt}
@@ -75,3 +77,12 @@ unit = 1 ∷ []
 unfoldable pub words : List (List ℕ) → List ℕ
 words [] = []
 words (c ∷ cs) = length c ∷ (c ++ words cs)
+
+-- ---- into a buffer
+-- a place that is far from the end of all numbers: the clauses of all rows that there may be end before it
+abbrev pub placeLimit : ℕ
+placeLimit = 16777218
+
+-- the words stand from a place on, and nothing else is changed, where the buffer has room for them
+abbrev pub WrittenIfRoom : List ℕ → ℕ → List ℕ → List ℕ → Type 0
+WrittenIfRoom before at ws after = at + length ws ≤ length before → after ≡ sets before at ws

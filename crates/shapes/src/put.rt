@@ -1,10 +1,10 @@
-// Clauses, written into the buffer at a place: a length word, then the literals.
+// Clauses, written into the buffer at a place: a length word, then the literals. Where the buffer has no room for them nothing is written, and so an empty one counts the need.
 ghost use mathlib.Core.Path.{_≡_};
 ghost use mathlib.Core.List.{[], _∷_, map};
 ghost use Prim.Native.Nat.{_+_, _≤_};
 ghost use lib.ListN.{length};
 ghost use lib.Seq.{sets};
-ghost use Rattle.shapes.specs.Shapes.{clausesOf, words, unit};
+ghost use Rattle.shapes.specs.Shapes.{clausesOf, words, unit, placeLimit, WrittenIfRoom};
 use crate::Shape;
 use crate::four::ite_clauses;
 use crate::four::xor_clauses;
@@ -12,9 +12,11 @@ use edge::not;
 
 // The unit clause: row 0 is false.
 pub fn put_unit(clauses: &mut [u32])
-    requires { ⌜ 2 ≤ length (now clauses) ⌝ }
-    ensures { λ _. ⌜ now (clauses .exit) ≡ sets (now (clauses .entry)) 0 (words (unit ∷ [])) ⌝ }
+    ensures { λ _. ⌜ WrittenIfRoom (now (clauses .entry)) 0 (words (unit ∷ [])) (now (clauses .exit)) ⌝ }
 {
+    if clauses.len() < 2 {
+        return;
+    }
     clauses[0] = 1;
     clauses[1] = 1;
 }
@@ -40,12 +42,17 @@ fn put_three(clauses: &mut [u32], at: usize, c: [u32; 3])
     clauses[at + 3] = c[2];
 }
 
-// Four clauses of three literals.
-fn put_four(clauses: &mut [u32], at: usize, four: [[u32; 3]; 4])
-    requires { ⌜ at + 16 ≤ length (now clauses) ⌝ }
+// Four clauses of three literals. The place behind them.
+fn put_four(clauses: &mut [u32], at: usize, four: [[u32; 3]; 4]) -> usize
+    requires { ⌜ at ≤ placeLimit ⌝ }
     requires { ⌜ map length four ≡ 3 ∷ 3 ∷ 3 ∷ 3 ∷ [] ⌝ }
-    ensures { λ _. ⌜ now (clauses .exit) ≡ sets (now (clauses .entry)) at (words four) ⌝ }
+    ensures place { λ r. ⌜ r ≡ at + 16 ⌝ }
+    ensures written { λ _. ⌜ WrittenIfRoom (now (clauses .entry)) at (words four) (now (clauses .exit)) ⌝ }
 {
+    let end = at + 16;
+    if clauses.len() < end {
+        return end;
+    }
     let c0 = four[0];
     put_three(clauses, at, c0);
     let c1 = four[1];
@@ -54,48 +61,38 @@ fn put_four(clauses: &mut [u32], at: usize, four: [[u32; 3]; 4])
     put_three(clauses, at + 8, c2);
     let c3 = four[3];
     put_three(clauses, at + 12, c3);
+    end
 }
 
-// The three clauses of a plain gate: g is a and b.
-fn put_plain(clauses: &mut [u32], at: usize, g: u32, a: u32, b: u32)
-    requires { ⌜ at + 10 ≤ length (now clauses) ⌝ }
-    ensures { λ _. ⌜ now (clauses .exit) ≡ sets (now (clauses .entry)) at (words (clausesOf g (Shape.Plain a b))) ⌝ }
+// The three clauses of a plain gate: g is a and b. The place behind them.
+fn put_plain(clauses: &mut [u32], at: usize, g: u32, a: u32, b: u32) -> usize
+    requires { ⌜ at ≤ placeLimit ⌝ }
+    ensures place { λ r. ⌜ r ≡ at + 10 ⌝ }
+    ensures written { λ _. ⌜ WrittenIfRoom (now (clauses .entry)) at (words (clausesOf g (Shape.Plain a b))) (now (clauses .exit)) ⌝ }
 {
+    let end = at + 10;
+    if clauses.len() < end {
+        return end;
+    }
     let ng = not(g);
     let na = not(a);
     let nb = not(b);
     put_two(clauses, at, ng, a);
     put_two(clauses, at + 3, ng, b);
     put_three(clauses, at + 6, [g, na, nb]);
+    end
 }
 
-// How many words a shape's clauses take, whatever the gate.
-pub fn size(s: Shape) -> usize
-    ensures { λ r. ⌜ r ≡ length (words (clausesOf 0 s)) ⌝ }
+// The clauses of the gate with literal g. The place behind them, whether they are written or not.
+pub fn put_shape(clauses: &mut [u32], at: usize, g: u32, s: Shape) -> usize
+    requires { ⌜ at ≤ placeLimit ⌝ }
+    ensures place { λ r. ⌜ r ≡ at + length (words (clausesOf g s)) ⌝ }
+    ensures written { λ _. ⌜ WrittenIfRoom (now (clauses .entry)) at (words (clausesOf g s)) (now (clauses .exit)) ⌝ }
 {
     match s {
-        Shape::Unwritten => 0,
-        Shape::Plain(_, _) => 10,
-        Shape::Xor(_, _) => 16,
-        Shape::Ite(_, _, _) => 16,
-    }
-}
-
-// The clauses of the gate with literal g.
-pub fn put_shape(clauses: &mut [u32], at: usize, g: u32, s: Shape)
-    requires { ⌜ at + length (words (clausesOf g s)) ≤ length (now clauses) ⌝ }
-    ensures { λ _. ⌜ now (clauses .exit) ≡ sets (now (clauses .entry)) at (words (clausesOf g s)) ⌝ }
-{
-    match s {
-        Shape::Unwritten => {}
-        Shape::Plain(a, b) => {
-            put_plain(clauses, at, g, a, b);
-        }
-        Shape::Xor(a, b) => {
-            put_four(clauses, at, xor_clauses(g, a, b));
-        }
-        Shape::Ite(c, t, e) => {
-            put_four(clauses, at, ite_clauses(g, c, t, e));
-        }
+        Shape::Unwritten => at,
+        Shape::Plain(a, b) => put_plain(clauses, at, g, a, b),
+        Shape::Xor(a, b) => put_four(clauses, at, xor_clauses(g, a, b)),
+        Shape::Ite(c, t, e) => put_four(clauses, at, ite_clauses(g, c, t, e)),
     }
 }

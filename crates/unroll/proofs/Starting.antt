@@ -1,8 +1,8 @@
 -- Laws of the test for the same first rows and the same latch inputs.
 -- Assumes nothing.
-use Prim.Native.Nat.{ℕ, _*_, _≤_, _<_}
+use Prim.Native.Nat.{ℕ, _+_, _-_, _*_, _≤_, _<_}
 use native.Mathlib.Omega.{arith}
-use mathlib.Core.Path.{_≡_, refl, ap, _∙_}
+use mathlib.Core.Path.{_≡_, refl, sym, ap, _∙_}
 use mathlib.Core.Bool.{Bool, true, false, not, _&&_}
 use mathlib.Core.List.{List}
 use lib.ListN.{getD}
@@ -15,11 +15,19 @@ use Rattle.graph.specs.declared.search.Found.the-variants.{At, Nothing}
 use Rattle.graph.specs.Search.{firstBad, nothingFound}
 use Rattle.graph.specs.Latches.{latchAt, latchInputs}
 use Rattle.graph.specs.Graph.{Lent}
-use Rattle.graph.proofs.Searching.{all-good, nothing-bad}
+use Rattle.graph.proofs.Searching.{stops, goes-on, ended, all-good, nothing-bad}
 use Rattle.frame.specs.Call.{SameStart}
 use Rattle.frame.proofs.Mapping.{same-inputs}
 use Rattle.frame.proofs.Ready.{as-many, same-input}
 use Rattle.unroll.specs.Unroll.{sameWord, sameLatch, startIs, sameStart}
+
+and-true : (t : Bool) → t && true ≡ t
+and-true true = refl
+and-true false = refl
+
+and-false : (t : Bool) → t && false ≡ false
+and-false true = refl
+and-false false = refl
 
 -- ---- nothing is found exactly where all are good
 all-are : (good : ℕ → Bool) (n : ℕ) → nothingFound (firstBad good 0 n) ≡ true → (j : ℕ) → j < n → good j ≡ true
@@ -31,6 +39,18 @@ all-are good n = go (firstBad good 0 n) refl
 
 found-none : (good : ℕ → Bool) (n : ℕ) → ((j : ℕ) → j < n → good j ≡ true) → nothingFound (firstBad good 0 n) ≡ true
 found-none good n h = ap nothingFound (nothing-bad good n 0 (λ j k l. h j (omega arith)))
+
+-- ---- a loop that looks at every place: `same` says whether all before i are good
+module _ (good : ℕ → Bool) (i n : ℕ) (same : Bool) {all : Bool} (inv : all ≡ same && nothingFound (firstBad good i (n - i))) where
+  pub look-ended : n ≤ i → same ≡ all
+  look-ended l = sym (inv ∙ (ap (λ (f : Found). same && nothingFound f) (ended good i n l) ∙ and-true same))
+
+  pub look-further : i < n → all ≡ (same && good i) && nothingFound (firstBad good (i + 1) (n - (i + 1)))
+  look-further l = inv ∙ go (good i) refl
+    where
+      go : (t : Bool) → good i ≡ t → same && nothingFound (firstBad good i (n - i)) ≡ (same && t) && nothingFound (firstBad good (i + 1) (n - (i + 1)))
+      go true e = rw (goes-on good i n l e, and-true same)
+      go false e = rw (stops good i n l e, and-false same)
 
 module _ (a b : Lent) where
   pub start-same : sameStart a b ≡ true → SameStart a b

@@ -17,17 +17,16 @@ use graph::Counts;
 use graph::latch::latch_at;
 use renumber::Rebuilt;
 
-// Are the first n words the same?
+// Are the first n words the same? Most often they are, so it looks at all of them: a loop that may leave early takes one word at a time.
 fn same_words(list: &[u32], list2: &[u32], n: usize) -> bool
     requires { ⌜ (n ≤ length (now list)) × (n ≤ length (now list2)) ⌝ }
     ensures { λ r. ⌜ r ≡ nothingFound (firstBad (sameWord (now (list .entry)) (now (list2 .entry))) 0 n) ⌝ }
 {
+    let mut same = true;
     for k in 0..n {
-        if list[k] != list2[k] {
-            return false;
-        }
+        same = same & (list[k] == list2[k]);
     }
-    true
+    same
 }
 
 // Have the first n latches the same inputs?
@@ -35,12 +34,11 @@ fn same_latches(latches: &[u32], latches2: &[u32], n: usize) -> bool
     requires { ⌜ (latchWords * n ≤ length (now latches)) × (latchWords * n ≤ length (now latches2)) ⌝ }
     ensures { λ r. ⌜ r ≡ nothingFound (firstBad (sameLatch (now (latches .entry)) (now (latches2 .entry))) 0 n) ⌝ }
 {
+    let mut same = true;
     for j in 0..n {
-        if latch_at(latches, j).input != latch_at(latches2, j).input {
-            return false;
-        }
+        same = same & (latch_at(latches, j).input == latch_at(latches2, j).input);
     }
-    true
+    same
 }
 
 // Are the target's first rows those of the second graph, and have both the same latch inputs in order?

@@ -17,13 +17,13 @@ slice-relend-prefix-frame-of : tie.Need-slice-relend-prefix-frame-of
 slice-relend-prefix-frame-of c = search needs
 
 slice-aggregate-frame-of-3 : tie.Need-slice-aggregate-frame-of-3
-slice-aggregate-frame-of-3 c = let a = (c .before .before .before .before .before .before) .args in omega (arith, part-long (a .counts2 .rows) (a .marks .now) ((c .before .before .before .before .before .before) .pre .1 .1 .0 .2))
+slice-aggregate-frame-of-3 c = let a = (c .before .before .before .before .before .before) .args in omega (arith, part-long (a .counts2 .rows) (a .marks .now) ((c .before .before .before .before .before .before) .pre .1 .1 .1 .0 .2))
 
 frame-of-requires : tie.Need-frame-of-requires
 frame-of-requires c κs =
     let a = (c .before .before .before .before .before .before) .args in
     let p = (c .before .before .before .before .before .before) .pre in
-    rw (part-long (a .counts2 .rows) (a .marks .now) (p .1 .1 .0 .2)) ((p .1 .1 .0 .0, p .1 .1 .0 .1, p .1 .0 .rows), ((p .0 .rows, p .0 .inputs), p .1 .1 .1))
+    rw (part-long (a .counts2 .rows) (a .marks .now) (p .1 .1 .1 .0 .2)) (p .0, ((p .1 .1 .1 .0 .0, p .1 .1 .1 .0 .1, p .1 .1 .0 .rows), ((p .1 .0 .rows, p .1 .0 .inputs), p .1 .1 .1 .1)))
 
 clear-requires : tie.Need-clear-requires
 clear-requires c κs = search needs
@@ -38,8 +38,8 @@ returns : tie.Need-returns
 returns c =
     let a = (c .before .before .before .before .before .before .before .before .before .before .before .before .before .before .before .before) .args in
     let p = (c .before .before .before .before .before .before .before .before .before .before .before .before .before .before .before .before) .pre in
-    let k = part-long (a .counts2 .rows) (a .marks .now) (p .1 .1 .0 .2) in
-    (need-told (a .counts) (a .latches .now) (a .rows2 .now) (a .counts2) (a .marks .now) (p .1 .1 .0 .2) (c .before .before .before .before .before .before .before .before .before .frame-of .ensures) (c .raised .ensures), c .before .before .before .clear .ensures ∙ map-cleared (a .counts2 .rows) (a .marks .now) (p .1 .1 .0 .2) (c .before .before .before .before .before .before .before .before .before .frame-of .last .1 .1 .1 .1 .1 .0) (c .before .before .before .before .before .before .before .before .before .frame-of .kept .1 .1 .1 .1 .1 .0 ∙ k))
+    let k = part-long (a .counts2 .rows) (a .marks .now) (p .1 .1 .1 .0 .2) in
+    (need-told (a .counts) (a .latches .now) (a .rows2 .now) (a .counts2) (a .marks .now) (p .1 .1 .1 .0 .2) (c .before .before .before .before .before .before .before .before .before .frame-of .ensures) (c .raised .ensures), c .before .before .before .clear .ensures ∙ map-cleared (a .counts2 .rows) (a .marks .now) (p .1 .1 .1 .0 .2) (c .before .before .before .before .before .before .before .before .before .frame-of .last .1 .1 .1 .1 .1 .0) (c .before .before .before .before .before .before .before .before .before .frame-of .kept .1 .1 .1 .1 .1 .0 ∙ k))
 
 pub needed-spec : {M : Type 1} → statement M
 needed-spec =

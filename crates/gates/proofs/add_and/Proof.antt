@@ -1,7 +1,7 @@
 -- `gates::add_and` meets its contract.
 -- Assumes nothing.
 use mathlib.Core.Path.{_∙_}
-use Rattle.gates.proofs.Building.{and-to, and-gate}
+use Rattle.gates.proofs.Building.{in-order, and-to, and-gate}
 use borrow.Author.Needs.{needs}
 use Rattle.gates.proofs.add_and.Statement.{statement}
 use Rattle.gates.proofs.add_and.Tie as tie
@@ -13,7 +13,7 @@ second-requires : tie.Need-second-requires
 second-requires c κs = search needs
 
 folded-requires : tie.Need-folded-requires
-folded-requires c κs = search needs
+folded-requires c κs = in-order _ _ (c .before .first .ensures) (c .second .ensures)
 
 enum-known-e : tie.Need-enum-known-e
 enum-known-e c = search needs

@@ -9,6 +9,7 @@ use lib.ListN.{length, getD}
 use lib.Seq.{ext-getD}
 use borrow.Author.Count.{below-none, below-more}
 use borrow.Author.Needs.{needs}
+use Rattle.marked.proofs.Telling.{never, tells-same}
 use Rattle.marked.proofs.same.Statement.{statement}
 use Rattle.marked.proofs.same.Tie as tie
 
@@ -21,11 +22,10 @@ Inv-loop a b i₀ i-end i = (i ≤ length a) × ((k : ℕ) → k < i → Alike a
 abbrev μ-loop : tie.MeasureT-loop
 μ-loop a b i₀ i-end i = length a - i
 
-never : {X : Type 0} → _≡_ false true → X
-never e = absurd (let z : _≡_ {A = ℕ} 0 1 = cc in omega arith)
-
 returns : tie.Need-returns Inv-loop μ-loop
-returns c = ((λ e. never e), (λ e. absurd ((c .if1 .taken) (ap length e))))
+returns c =
+    let at-start = c .before in
+    tells-same (at-start .args .a .now) (at-start .args .b .now) false ((λ e. never e), (λ e. absurd ((c .if1 .taken) (ap length e))))
 
 loop-holds : tie.Need-loop-holds Inv-loop μ-loop
 loop-holds c = (search needs, below-none (Alike (c .before .args .a .now) (c .before .args .b .now)))
@@ -43,7 +43,10 @@ shared-slice-read-if2-2 : tie.Need-shared-slice-read-if2-2 Inv-loop μ-loop
 shared-slice-read-if2-2 c = search needs
 
 returns-2 : tie.Need-returns-2 Inv-loop μ-loop
-returns-2 c = ((λ e. never e), (λ e. absurd ((c .if2 .taken) (ap (λ (l : List ℕ). getD l (c .before .before .before .before .loop .i) 0) e))))
+returns-2 c =
+    let at-start = c .before .before .before .before .before .before in
+    tells-same (at-start .args .a .now) (at-start .args .b .now) false
+    ((λ e. never e), (λ e. absurd ((c .if2 .taken) (ap (λ (l : List ℕ). getD l (c .before .before .before .before .loop .i) 0) e))))
 
 add-i : tie.Need-add-i Inv-loop μ-loop
 add-i c = search needs
@@ -60,6 +63,7 @@ loop-again c =
 returns-3 : tie.Need-returns-3 Inv-loop μ-loop
 returns-3 c =
     let at-start = c .before .before .before in
+    tells-same (at-start .args .a .now) (at-start .args .b .now) true
     ((λ e. ext-getD 0 (at-start .args .a .now) (at-start .args .b .now) (c .before .before .if1 .left) (λ k h. c .before .loop .inv .1 k (omega arith))), (λ e. refl))
 
 pub same-spec : {M : Type 1} → statement M

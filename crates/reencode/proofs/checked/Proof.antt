@@ -39,7 +39,9 @@ returns-2 c = check-refused (graph (c .before .before .before .before .before .b
 
 count-leaves-requires : tie.Need-count-leaves-requires
 unfolding graph out
-count-leaves-requires c κs = omega (arith, accepted (graph (c .before .before .before .before .before .before .before .before .before .before .before .before .before .before .before .before .before .before .before .before .before .before .before .before .before .before .before)) (out (c .before .before .before .before .before .before .before .before .before .before .before .before .before .before .before .before .before .before .before .before .before .before .before .before .before .before .before)) (c .before .before .before .before .before .before .before .before .before .before .before .before .before .before .before .before .before .before .before .before .before .before .before .before .before .before .before .args .marks .now) (c .before .before .before .before .before .before .before .limits .ensures) (c .before .before .before .before .before .before .if1 .left) (c .before .before .before .before .check .result) (c .before .before .before .before .check .ensures) (c .before .is-done .ensures) (c .if2 .left) .0 .rows .fit .within)
+count-leaves-requires c κs =
+    let s = accepted (graph (c .before .before .before .before .before .before .before .before .before .before .before .before .before .before .before .before .before .before .before .before .before .before .before .before .before .before .before)) (out (c .before .before .before .before .before .before .before .before .before .before .before .before .before .before .before .before .before .before .before .before .before .before .before .before .before .before .before)) (c .before .before .before .before .before .before .before .before .before .before .before .before .before .before .before .before .before .before .before .before .before .before .before .before .before .before .before .args .marks .now) (c .before .before .before .before .before .before .before .limits .ensures) (c .before .before .before .before .before .before .if1 .left) (c .before .before .before .before .check .result) (c .before .before .before .before .check .ensures) (c .before .is-done .ensures) (c .if2 .left) in
+    (omega (arith, s .0 .rows .fit .within), (omega (arith, s .0 .rows .fit .within, s .0 .rows .fit .limited), s .1 .rows))
 
 add-if3 : tie.Need-add-if3
 unfolding graph out

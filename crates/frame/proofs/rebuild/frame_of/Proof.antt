@@ -9,7 +9,9 @@ start-map-requires : tie.Need-start-map-requires
 start-map-requires c κs = search needs
 
 frame-rows-requires : tie.Need-frame-rows-requires
-frame-rows-requires c κs = search needs
+frame-rows-requires c κs =
+    let s = c .before .before .before .before .before .before .before .before .before .before .before .before in
+    (rw (c .before .before .before .before .before .start-map .kept .1 .1 .0) (s .pre .0), (search needs, search needs))
 
 same-length : tie.Need-same-length
 same-length c = search needs

@@ -1,10 +1,9 @@
 -- `frame::rebuild::frame_row` meets its contract.
 -- Assumes nothing.
 use native.Mathlib.Omega.{arith}
-use mathlib.Core.Path.{_∙_, sym}
 use Rattle.rows.proofs.Laws.{gate-below}
 use Rattle.frame.specs.Frame.{frame}
-use Rattle.frame.proofs.Framing.{row-gate, row-leaf, row-stays}
+use Rattle.frame.proofs.Framing.{first-gate, else-no-gate, row-gate, row-leaf, row-stays}
 use borrow.Author.Needs.{needs}
 use Rattle.frame.proofs.rebuild.frame_row.Statement.{statement}
 use Rattle.frame.proofs.rebuild.frame_row.Tie as tie
@@ -30,14 +29,17 @@ mul-b-2 c = search needs
 shared-slice-read-b : tie.Need-shared-slice-read-b
 shared-slice-read-b c = search needs
 
-is-gate-requires : tie.Need-is-gate-requires
-is-gate-requires c κs = search needs
-
 mapped-requires : tie.Need-mapped-requires
-mapped-requires c κs = let l = gate-below ((c .before .before .before .before .before .before .before .before .before .before) .args .i) _ _ (sym (c .before .before .before .is-gate .ensures) ∙ c .before .before .if1 .taken) in omega (arith, l .0, (c .before .before .before .before .before .before .before .before .before .before) .pre .0 .1)
+mapped-requires c κs =
+    let s = c .before .before .before .before .before .before .before .before .before in
+    let l = gate-below (s .args .i) _ _ (first-gate (s .args .from .now) (s .args .i) (s .pre .0 .0) (c .before .before .if1 .taken)) in
+    omega (arith, l .0, s .pre .1 .0 .1)
 
 mapped-requires-2 : tie.Need-mapped-requires-2
-mapped-requires-2 c κs = let l = gate-below ((c .before .before .before .before .before .before .before .before .before .before .before .before) .args .i) _ _ (sym (c .before .before .before .before .before .is-gate .ensures) ∙ c .before .before .before .before .if1 .taken) in omega (arith, l .1, (c .before .before .before .before .before .before .before .before .before .before .before .before) .pre .0 .1)
+mapped-requires-2 c κs =
+    let s = c .before .before .before .before .before .before .before .before .before .before .before in
+    let l = gate-below (s .args .i) _ _ (first-gate (s .args .from .now) (s .args .i) (s .pre .0 .0) (c .before .before .before .before .if1 .taken)) in
+    omega (arith, l .1, s .pre .1 .0 .1)
 
 add-and-requires : tie.Need-add-and-requires
 add-and-requires c κs = search needs
@@ -56,8 +58,10 @@ same-length-2 c = search needs
 
 returns : tie.Need-returns
 returns c =
-    let a = (c .before .before .before .before .before .before .before .before .before .before .before .before .before .before .before .before) .args in
-    row-gate (a .from .now) (a .i) (frame (a .rows .now) (a .at .used) (a .inputs .now) (a .at .inputs) (a .map .now)) (sym (c .before .before .before .before .before .before .before .before .before .is-gate .ensures) ∙ c .before .before .before .before .before .before .before .before .if1 .taken) (c .before .before .before .before .before .mapped .ensures) (c .before .before .before .mapped2 .ensures) _ (c .before .before .add-and .ensures)
+    let s = c .before .before .before .before .before .before .before .before .before .before .before .before .before .before .before in
+    let a = s .args in
+    row-gate (a .from .now) (a .i) (frame (a .rows .now) (a .at .used) (a .inputs .now) (a .at .inputs) (a .map .now)) (first-gate (a .from .now) (a .i) (s .pre .0 .0) (c .before .before .before .before .before .before .before .before .if1 .taken))
+    (c .before .before .before .before .before .mapped .ensures) (c .before .before .before .mapped2 .ensures) _ (c .before .before .add-and .ensures)
 
 mul-if2 : tie.Need-mul-if2
 mul-if2 c = search needs
@@ -80,11 +84,11 @@ mul-map-3 c = search needs
 slice-write-map-2 : tie.Need-slice-write-map-2
 slice-write-map-2 c = search needs
 
-add-t36 : tie.Need-add-t36
-add-t36 c = search needs
+add-t35 : tie.Need-add-t35
+add-t35 c = search needs
 
-add-t38 : tie.Need-add-t38
-add-t38 c = search needs
+add-t37 : tie.Need-add-t37
+add-t37 c = search needs
 
 same-length-3 : tie.Need-same-length-3
 same-length-3 c = search needs
@@ -97,13 +101,16 @@ same-length-5 c = search needs
 
 returns-2 : tie.Need-returns-2
 returns-2 c =
-    let a = (c .before .before .before .before .before .before .before .before .before .before .before .before .before .before .before .before .before .before .before .before) .args in
-    row-leaf (a .from .now) (a .i) (frame (a .rows .now) (a .at .used) (a .inputs .now) (a .at .inputs) (a .map .now)) (sym (c .before .before .before .before .before .before .before .before .before .before .before .before .before .is-gate .ensures) ∙ c .before .before .before .before .before .before .before .before .before .before .before .before .if1 .left) (c .before .before .before .before .before .before .before .before .before .before .if2 .taken) (c .before .before .before .before .before .before .before .add-leaf .ensures .0) (c .before .before .before .before .before .before .before .add-leaf .ensures .1)
+    let s = c .before .before .before .before .before .before .before .before .before .before .before .before .before .before .before .before .before .before .before in
+    let a = s .args in
+    row-leaf (a .from .now) (a .i) (frame (a .rows .now) (a .at .used) (a .inputs .now) (a .at .inputs) (a .map .now)) (else-no-gate (a .from .now) (a .i) (s .pre .0 .1) (c .before .before .before .before .before .before .before .before .before .before .before .before .if1 .left))
+    (c .before .before .before .before .before .before .before .before .before .before .if2 .taken) (c .before .before .before .before .before .before .before .add-leaf .ensures .0) (c .before .before .before .before .before .before .before .add-leaf .ensures .1)
 
 returns-3 : tie.Need-returns-3
 returns-3 c =
-    let a = (c .before .before .before .before .before .before .before .before .before .before) .args in
-    row-stays (a .from .now) (a .i) (frame (a .rows .now) (a .at .used) (a .inputs .now) (a .at .inputs) (a .map .now)) (sym (c .before .before .before .is-gate .ensures) ∙ c .before .before .if1 .left) (c .if2 .left)
+    let s = c .before .before .before .before .before .before .before .before .before in
+    let a = s .args in
+    row-stays (a .from .now) (a .i) (frame (a .rows .now) (a .at .used) (a .inputs .now) (a .at .inputs) (a .map .now)) (else-no-gate (a .from .now) (a .i) (s .pre .0 .1) (c .before .before .if1 .left)) (c .if2 .left)
 
 pub frame-row-spec : {M : Type 1} → statement M
 frame-row-spec =
@@ -116,7 +123,6 @@ frame-row-spec =
     add-b
     mul-b-2
     shared-slice-read-b
-    is-gate-requires
     mapped-requires
     mapped-requires-2
     add-and-requires
@@ -132,8 +138,8 @@ frame-row-spec =
     mul-map-2
     mul-map-3
     slice-write-map-2
-    add-t36
-    add-t38
+    add-t35
+    add-t37
     same-length-3
     same-length-4
     same-length-5

@@ -21,7 +21,10 @@ loop-holds : tie.Need-loop-holds Inv-loop μ-loop
 loop-holds c = (search needs, search needs, search needs, refl, refl, refl, rw sub-zero)
 
 frame-row-requires : tie.Need-frame-row-requires Inv-loop μ-loop
-frame-row-requires c κs = search needs
+frame-row-requires c κs =
+    let s = c .before .before .before .before .before .before .before .before .before in
+    let l = c .before .before .before .before .loop in
+    ((s .pre .0 (l .i) (c .before .before .before .loop-test .taken), search needs), (search needs, search needs))
 
 add-i : tie.Need-add-i Inv-loop μ-loop
 add-i c = search needs

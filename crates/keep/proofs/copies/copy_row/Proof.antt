@@ -33,7 +33,7 @@ is-gate-requires : tie.Need-is-gate-requires
 is-gate-requires c κs = search needs
 
 row-word-requires : tie.Need-row-word-requires
-row-word-requires c κs = first-ready (c .before .before .before .before .before .before .args .rows .now) (c .before .before .before .before .before .before .args .i) (c .before .before .before .before .before .before .args .map .now) (c .before .before .before .before .before .before .pre .known) (c .is-gate .ensures)
+row-word-requires c κs = first-ready (c .before .before .before .before .before .before .args .rows .now) (c .before .before .before .before .before .before .args .i) (c .before .before .before .before .before .before .args .map .now) (c .before .before .before .before .before .before .pre .small) (c .before .before .before .before .before .before .pre .known) (c .is-gate .ensures)
 
 mul-out : tie.Need-mul-out
 mul-out c = search needs
@@ -45,7 +45,7 @@ slice-write-out : tie.Need-slice-write-out
 slice-write-out c = omega (arith, c .before .before .before .before .before .before .before .pre .place)
 
 row-word-requires-2 : tie.Need-row-word-requires-2
-row-word-requires-2 c κs = second-ready (c .before .before .before .before .before .before .before .args .rows .now) (c .before .before .before .before .before .before .before .args .i) (c .before .before .before .before .before .before .before .args .map .now) (c .before .before .before .before .before .before .before .pre .known) (c .before .is-gate .ensures)
+row-word-requires-2 c κs = second-ready (c .before .before .before .before .before .before .before .args .rows .now) (c .before .before .before .before .before .before .before .args .i) (c .before .before .before .before .before .before .before .args .map .now) (c .before .before .before .before .before .before .before .pre .small) (c .before .before .before .before .before .before .before .pre .known) (c .before .is-gate .ensures)
 
 mul-out-3 : tie.Need-mul-out-3
 mul-out-3 c = search needs

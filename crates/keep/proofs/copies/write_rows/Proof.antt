@@ -26,7 +26,7 @@ is-numbered-requires : tie.Need-is-numbered-requires Inv-loop μ-loop
 is-numbered-requires c κs = c .before .before .before .before .before .before .pre .known (c .before .loop .i) (c .loop-test .taken) .has
 
 copy-row-requires : tie.Need-copy-row-requires Inv-loop μ-loop
-copy-row-requires c κs = record { row = omega (arith, c .before .before .before .before .before .before .before .before .before .pre .long); place = omega (arith, c .before .before .before .before .loop .inv .1 .long, c .before .before .before .before .before .before .before .before .before .pre .room, keep-room (numbered (c .before .before .before .before .before .before .before .before .before .args .map .now)) (rowPut (by (c .before .before .before .before .before .before .before .before .before .args .map .now)) (c .before .before .before .before .before .before .before .before .before .args .rows .now)) (c .before .before .before .before .before .before .before .before .before .args .out .now) (c .before .before .before .before .loop .i) (c .before .before .before .before .before .before .before .before .before .args .used) (c .before .before .before .before .loop .inv .1) (c .before .before .before .loop-test .taken) (sym (c .before .before .is-numbered .ensures) ∙ c .before .if1 .taken)); known = λ j l. c .before .before .before .before .before .before .before .before .before .pre .known j (omega arith) }
+copy-row-requires c κs = record { row = omega (arith, c .before .before .before .before .before .before .before .before .before .pre .long); place = omega (arith, c .before .before .before .before .loop .inv .1 .long, c .before .before .before .before .before .before .before .before .before .pre .room, keep-room (numbered (c .before .before .before .before .before .before .before .before .before .args .map .now)) (rowPut (by (c .before .before .before .before .before .before .before .before .before .args .map .now)) (c .before .before .before .before .before .before .before .before .before .args .rows .now)) (c .before .before .before .before .before .before .before .before .before .args .out .now) (c .before .before .before .before .loop .i) (c .before .before .before .before .before .before .before .before .before .args .used) (c .before .before .before .before .loop .inv .1) (c .before .before .before .loop-test .taken) (sym (c .before .before .is-numbered .ensures) ∙ c .before .if1 .taken)); small = omega (arith, c .before .before .before .before .before .before .before .before .before .pre .small); known = λ j l. c .before .before .before .before .before .before .before .before .before .pre .known j (omega arith) }
 
 cast-old : tie.Need-cast-old Inv-loop μ-loop
 cast-old c = omega (arith, count-small _ _ (c .before .before .before .before .before .before .before .loop .inv .1 .count), c .before .before .before .before .before .before .before .before .before .before .before .before .pre .small)

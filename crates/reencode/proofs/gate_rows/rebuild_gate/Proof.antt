@@ -33,11 +33,11 @@ is-gate-requires c κs = search needs
 returns : tie.Need-returns
 returns c = gate-passed (c .before .before .before .before .before .before .before .args .rows .now) (c .before .before .before .before .before .before .before .args .i) (c .before .is-gate .ensures) (by (c .before .before .before .before .before .before .before .args .marks .now)) (c .before .before .before .before .before .before .before .args .k) (c .before .before .before .before .before .before .before .args .out .now) (c .before .before .before .before .before .before .before .args .marks .now) (c .if1 .taken)
 
-renamed-requires : tie.Need-renamed-requires
-renamed-requires c κs = gate-mapped (c .before .before .before .before .before .before .before .before .args .rows .now) (c .before .before .before .before .before .before .before .before .args .i) (c .before .before .is-gate .ensures) (c .before .if1 .left) (c .before .before .before .before .before .before .before .before .args .marks .now) (c .before .before .before .before .before .before .before .before .pre .known) .0
+renamed-edge-requires : tie.Need-renamed-edge-requires
+renamed-edge-requires c κs = gate-mapped (c .before .before .before .before .before .before .before .before .args .rows .now) (c .before .before .before .before .before .before .before .before .args .i) (c .before .before .is-gate .ensures) (c .before .if1 .left) (c .before .before .before .before .before .before .before .before .args .marks .now) (c .before .before .before .before .before .before .before .before .pre .small) (c .before .before .before .before .before .before .before .before .pre .known) .0
 
-renamed-requires-2 : tie.Need-renamed-requires-2
-renamed-requires-2 c κs = gate-mapped (c .before .before .before .before .before .before .before .before .before .before .args .rows .now) (c .before .before .before .before .before .before .before .before .before .before .args .i) (c .before .before .before .before .is-gate .ensures) (c .before .before .before .if1 .left) (c .before .before .before .before .before .before .before .before .before .before .args .marks .now) (c .before .before .before .before .before .before .before .before .before .before .pre .known) .1
+renamed-edge-requires-2 : tie.Need-renamed-edge-requires-2
+renamed-edge-requires-2 c κs = gate-mapped (c .before .before .before .before .before .before .before .before .before .before .args .rows .now) (c .before .before .before .before .before .before .before .before .before .before .args .i) (c .before .before .before .before .is-gate .ensures) (c .before .before .before .if1 .left) (c .before .before .before .before .before .before .before .before .before .before .args .marks .now) (c .before .before .before .before .before .before .before .before .before .before .pre .small) (c .before .before .before .before .before .before .before .before .before .before .pre .known) .1
 
 cast-marks : tie.Need-cast-marks
 cast-marks c = search needs
@@ -58,7 +58,7 @@ same-length-2 : tie.Need-same-length-2
 same-length-2 c = search needs
 
 returns-2 : tie.Need-returns-2
-returns-2 c = gate-rebuilt (c .before .before .before .before .before .before .before .before .before .before .before .before .before .before .before .args .rows .now) (c .before .before .before .before .before .before .before .before .before .before .before .before .before .before .before .args .i) (c .before .before .before .before .before .before .before .before .before .is-gate .ensures) (by (c .before .before .before .before .before .before .before .before .before .before .before .before .before .before .before .args .marks .now)) (c .before .before .before .before .before .before .before .before .before .before .before .before .before .before .before .args .k) (c .before .before .before .before .before .before .before .before .before .before .before .before .before .before .before .args .out .now) (c .before .before .before .before .before .before .before .before .before .before .before .before .before .before .before .args .marks .now) (c .before .before .before .before .before .before .before .before .if1 .left) (c .before .before .before .before .before .before .renamed .ensures) (c .before .before .before .before .renamed2 .ensures) (c .before .before .add-gate .ensures)
+returns-2 c = gate-rebuilt (c .before .before .before .before .before .before .before .before .before .before .before .before .before .before .before .args .rows .now) (c .before .before .before .before .before .before .before .before .before .before .before .before .before .before .before .args .i) (c .before .before .before .before .before .before .before .before .before .is-gate .ensures) (by (c .before .before .before .before .before .before .before .before .before .before .before .before .before .before .before .args .marks .now)) (c .before .before .before .before .before .before .before .before .before .before .before .before .before .before .before .args .k) (c .before .before .before .before .before .before .before .before .before .before .before .before .before .before .before .args .out .now) (c .before .before .before .before .before .before .before .before .before .before .before .before .before .before .before .args .marks .now) (c .before .before .before .before .before .before .before .before .if1 .left) (c .before .before .before .before .before .before .renamed-edge .ensures) (c .before .before .before .before .renamed-edge2 .ensures) (c .before .before .add-gate .ensures)
 
 pub rebuild-gate-spec : {M : Type 1} → statement M
 rebuild-gate-spec =
@@ -73,8 +73,8 @@ rebuild-gate-spec =
     shared-slice-read-b
     is-gate-requires
     returns
-    renamed-requires
-    renamed-requires-2
+    renamed-edge-requires
+    renamed-edge-requires-2
     cast-marks
     mul-marks
     slice-write-marks

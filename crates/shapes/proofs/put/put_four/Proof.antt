@@ -1,9 +1,17 @@
 -- `shapes::put::put_four` meets its contract.
 -- Assumes nothing.
-use Rattle.shapes.proofs.Writing.{put-four}
+use Rattle.shapes.specs.Shapes.{words}
+use Rattle.shapes.proofs.Writing.{no-room, four-long, put-four}
+use mathlib.Core.Path.{refl}
 use borrow.Author.Needs.{needs}
 use Rattle.shapes.proofs.put.put_four.Statement.{statement}
 use Rattle.shapes.proofs.put.put_four.Tie as tie
+
+add-end : tie.Need-add-end
+add-end c = search needs
+
+returns : tie.Need-returns
+returns c = let a = c .before .before .args in (refl, no-room (a .clauses .now) (a .at) (words (a .t3)) (four-long (a .t3) (c .before .before .pre .1)) (c .if1 .taken))
 
 array-copy-out-c0 : tie.Need-array-copy-out-c0
 array-copy-out-c0 c = search needs
@@ -41,13 +49,15 @@ put-three-requires-4 c κs = search needs
 same-length : tie.Need-same-length
 same-length c = search needs
 
-returns : tie.Need-returns
-returns c = put-four _ _ _ _ _ _ _ _ (c .before .before .before .before .before .before .before .before .before .before .before .before .before .before .before .before .before .before .before .before .before .pre .1) (c .before .before .before .before .before .before .before .before .before .before .before .before .before .before .before .before .before .put-three .ensures) (c .before .before .before .before .before .before .before .before .before .before .before .before .put-three2 .ensures) (c .before .before .before .before .before .before .before .put-three3 .ensures) (c .before .before .put-three4 .ensures)
+returns-2 : tie.Need-returns-2
+returns-2 c = (refl, λ _. put-four _ _ _ _ _ _ _ _ (c .before .before .before .before .before .before .before .before .before .before .before .before .before .before .before .before .before .before .before .before .before .before .pre .1) (c .before .before .before .before .before .before .before .before .before .before .before .before .before .before .before .before .before .put-three .ensures) (c .before .before .before .before .before .before .before .before .before .before .before .before .put-three2 .ensures) (c .before .before .before .before .before .before .before .put-three3 .ensures) (c .before .before .put-three4 .ensures))
 
 pub put-four-spec : {M : Type 1} → statement M
 put-four-spec =
     tie.close
     (tie.spec
+    add-end
+    returns
     array-copy-out-c0
     put-three-requires
     array-copy-out-c1
@@ -60,4 +70,4 @@ put-four-spec =
     add-put-three-3
     put-three-requires-4
     same-length
-    returns)
+    returns-2)

@@ -2,7 +2,7 @@
 -- Assumes nothing.
 use native.Mathlib.Omega.{arith}
 use mathlib.Core.Path.{refl}
-use Rattle.shapes.proofs.Writing.{size-plain, size-xor, size-ite, threes-xor, threes-ite, put-none, put-same}
+use Rattle.shapes.proofs.Writing.{size-plain, size-xor, size-ite, threes-xor, threes-ite, put-none, put-same, behind-none}
 use borrow.Author.Needs.{needs}
 use Rattle.shapes.proofs.put.put_shape.Statement.{statement}
 use Rattle.shapes.proofs.put.put_shape.Tie as tie
@@ -14,7 +14,7 @@ enum-known-s : tie.Need-enum-known-s
 enum-known-s c = search needs
 
 put-plain-requires : tie.Need-put-plain-requires
-put-plain-requires c κs = omega (arith, c .before .before .before .before .before .pre, size-plain (c .before .before .before .before .before .args .g) _ _ (c .before .before .s .given .1))
+put-plain-requires c κs = search needs
 
 enum-known-s-2 : tie.Need-enum-known-s-2
 enum-known-s-2 c = search needs
@@ -23,7 +23,7 @@ xor-clauses-requires : tie.Need-xor-clauses-requires
 xor-clauses-requires c κs = search needs
 
 put-four-requires : tie.Need-put-four-requires
-put-four-requires c κs = (omega (arith, c .before .before .before .before .before .before .pre, size-xor (c .before .before .before .before .before .before .args .g) _ _ (c .before .before .before .s2 .given .1)), threes-xor (c .before .before .before .before .before .before .args .g) _ _ (c .xor-clauses .ensures))
+put-four-requires c κs = (c .before .before .before .before .before .before .pre, threes-xor (c .before .before .before .before .before .before .args .g) _ _ (c .xor-clauses .ensures))
 
 enum-known-s-3 : tie.Need-enum-known-s-3
 enum-known-s-3 c = search needs
@@ -32,28 +32,28 @@ ite-clauses-requires : tie.Need-ite-clauses-requires
 ite-clauses-requires c κs = search needs
 
 put-four-requires-2 : tie.Need-put-four-requires-2
-put-four-requires-2 c κs = (omega (arith, c .before .before .before .before .before .before .pre, size-ite (c .before .before .before .before .before .before .args .g) _ _ _ (c .before .before .before .s3 .given .1)), threes-ite (c .before .before .before .before .before .before .args .g) _ _ _ (c .ite-clauses .ensures))
+put-four-requires-2 c κs = (c .before .before .before .before .before .before .pre, threes-ite (c .before .before .before .before .before .before .args .g) _ _ _ (c .ite-clauses .ensures))
 
 returns : tie.Need-returns
-returns c = put-none (c .before .before .before .args .g) (c .before .before .before .args .clauses .now) (c .before .before .before .args .at) (c .enum-told .given .1)
+returns c = let a = c .before .before .before .args in (behind-none (a .g) (a .at) (c .enum-told .given .1), put-none (a .g) (a .clauses .now) (a .at) (c .enum-told .given .1))
 
 same-length : tie.Need-same-length
 same-length c = search needs
 
 returns-2 : tie.Need-returns-2
-returns-2 c = put-same (c .before .before .before .before .before .before .before .before .args .g) (c .before .before .before .before .before .before .before .before .args .clauses .now) (c .before .before .before .before .before .before .before .before .args .at) (c .before .before .before .before .before .s .given .1) refl (c .before .before .put-plain .ensures)
+returns-2 c = let a = c .before .before .before .before .before .before .before .before .args in (omega (arith, c .before .before .put-plain .ensures .0, size-plain (a .g) _ _ (c .before .before .before .before .before .s .given .1)), put-same (a .g) (a .clauses .now) (a .at) (c .before .before .before .before .before .s .given .1) refl (c .before .before .put-plain .ensures .1))
 
 same-length-2 : tie.Need-same-length-2
 same-length-2 c = search needs
 
 returns-3 : tie.Need-returns-3
-returns-3 c = put-same (c .before .before .before .before .before .before .before .before .before .args .g) (c .before .before .before .before .before .before .before .before .before .args .clauses .now) (c .before .before .before .before .before .before .before .before .before .args .at) (c .before .before .before .before .before .before .s2 .given .1) (c .before .before .before .xor-clauses .ensures) (c .before .before .put-four .ensures)
+returns-3 c = let a = c .before .before .before .before .before .before .before .before .before .args in (omega (arith, c .before .before .put-four .ensures .0, size-xor (a .g) _ _ (c .before .before .before .before .before .before .s2 .given .1)), put-same (a .g) (a .clauses .now) (a .at) (c .before .before .before .before .before .before .s2 .given .1) (c .before .before .before .xor-clauses .ensures) (c .before .before .put-four .ensures .1))
 
 same-length-3 : tie.Need-same-length-3
 same-length-3 c = search needs
 
 returns-4 : tie.Need-returns-4
-returns-4 c = put-same (c .before .before .before .before .before .before .before .before .before .args .g) (c .before .before .before .before .before .before .before .before .before .args .clauses .now) (c .before .before .before .before .before .before .before .before .before .args .at) (c .before .before .before .before .before .before .s3 .given .1) (c .before .before .before .ite-clauses .ensures) (c .before .before .put-four2 .ensures)
+returns-4 c = let a = c .before .before .before .before .before .before .before .before .before .args in (omega (arith, c .before .before .put-four2 .ensures .0, size-ite (a .g) _ _ _ (c .before .before .before .before .before .before .s3 .given .1)), put-same (a .g) (a .clauses .now) (a .at) (c .before .before .before .before .before .before .s3 .given .1) (c .before .before .before .ite-clauses .ensures) (c .before .before .put-four2 .ensures .1))
 
 pub put-shape-spec : {M : Type 1} → statement M
 put-shape-spec =

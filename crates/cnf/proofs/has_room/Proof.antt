@@ -1,0 +1,53 @@
+-- `cnf::has_room` meets its contract.
+-- Assumes nothing.
+use native.Mathlib.Omega.{arith}
+use Prim.Native.Nat.{ℕ}
+use mathlib.Core.Path.{refl, ap}
+use mathlib.Core.List.{List}
+use lib.Dec.{leb}
+use Rattle.roots.specs.Roots.{rootsIn}
+use Rattle.cnf.proofs.Calling.{room-for-most}
+use borrow.Author.Needs.{needs}
+use Rattle.cnf.proofs.has_room.Statement.{statement}
+use Rattle.cnf.proofs.has_room.Tie as tie
+
+roots : tie.Start → List ℕ
+roots c = let a = c .args in rootsIn (a .latches .now) (a .constraints .now) (a .bads .now) (a .outputs .now) (a .edges .now) (a .fairness .now) (a .counts)
+
+sub-most : tie.Need-sub-most
+sub-most c = omega (arith, c .before .before .before .before .before .before .before .before .pre .1 .some-row)
+
+mul-most : tie.Need-mul-most
+mul-most c = omega (arith, c .before .before .before .before .before .before .before .before .pre .1 .rows-few)
+
+add-most : tie.Need-add-most
+add-most c = omega (arith, c .before .before .before .before .before .before .before .before .pre .1 .rows-few)
+
+returns : tie.Need-returns
+unfolding roots
+returns c = let s = c .before .before .before .before .before .before .before .before .before in let a = s .args in (room-for-most (a .shortcuts) (a .rows .now) (roots s) (a .marks .now) (a .room) (s .pre .1) (c .if1 .taken), refl)
+
+slice-aggregate-put-words : tie.Need-slice-aggregate-put-words
+slice-aggregate-put-words c = search needs
+
+put-words-requires : tie.Need-put-words-requires
+put-words-requires c κs = c .before .before .before .before .before .before .before .before .before .before .before .pre
+
+same-length : tie.Need-same-length
+same-length c = search needs
+
+returns-2 : tie.Need-returns-2
+returns-2 c = (ap (λ (n : ℕ). leb n (c .before .before .before .before .before .before .before .before .before .before .before .before .before .before .before .args .room)) (c .before .before .before .put-words .ensures .0), c .before .before .before .put-words .ensures .1 .1)
+
+pub has-room-spec : {M : Type 1} → statement M
+has-room-spec =
+    tie.close
+    (tie.spec
+    sub-most
+    mul-most
+    add-most
+    returns
+    slice-aggregate-put-words
+    put-words-requires
+    same-length
+    returns-2)
