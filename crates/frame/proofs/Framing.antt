@@ -18,7 +18,7 @@ use Rattle.graph.specs.declared.Counts.{Counts}
 use Rattle.frame.specs.Map.{mapped, startMap}
 use Rattle.frame.specs.Frame.{Frame, frame, gatePlaced, leafPlaced, frameRow, frameRows, frameOf}
 
--- ---- of rows a gate alone has a first word below the false row's
+-- ---- of rows a gate alone has a first word that is an edge's
 module _ (from : List ℕ) (i : ℕ) where
   pub first-gate : rowAt from i ≡ true → word0 from i < falseWord → gateAt from i ≡ true
   unfolding isRow isFalseRow isLeaf
@@ -31,7 +31,7 @@ module _ (from : List ℕ) (i : ℕ) where
       (λ k. k)
       (either {a = isFalseRow i (word0 from i) (word1 from i) || isLeaf i (word0 from i) (word1 from i)} r)
 
-  pub else-no-gate : i ≤ maxRows → falseWord ≤ word0 from i → gateAt from i ≡ false
+  pub else-no-gate : i ≤ maxRows → 2 * maxRows ≤ word0 from i → gateAt from i ≡ false
   unfolding isGate
   else-no-gate few l = rw (le-ltb (word0 from i) (2 * i) (omega arith))
 

@@ -13,7 +13,6 @@ use crate::map::start_map;
 use gates::add_and;
 use gates::add_row;
 use graph::Counts;
-use rows::kinds::FALSE_ROW;
 use rows::kinds::NONE;
 
 // How many rows are used, and how many inputs are listed.
@@ -35,6 +34,9 @@ fn add_leaf(rows: &mut [u32], inputs: &mut [u32], at: Reached)
     }
 }
 
+// Above every edge of a graph, and below the first words of the false row and of a leaf. It is odd: an even limit the compiler would shift before it compares.
+const EDGES_END: u32 = 4294967293;
+
 // Row i. It is a row, so its first word tells whether it is a gate.
 fn frame_row(
     from: &[u32],
@@ -51,7 +53,7 @@ fn frame_row(
 {
     let a = from[2 * i];
     let b = from[2 * i + 1];
-    if a < FALSE_ROW {
+    if a < EDGES_END {
         let g = add_and(rows, at.used, mapped(map, a), mapped(map, b));
         map[i] = g.edge;
         return Reached {

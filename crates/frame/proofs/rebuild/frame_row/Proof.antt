@@ -32,13 +32,13 @@ shared-slice-read-b c = search needs
 mapped-requires : tie.Need-mapped-requires
 mapped-requires c κs =
     let s = c .before .before .before .before .before .before .before .before .before in
-    let l = gate-below (s .args .i) _ _ (first-gate (s .args .from .now) (s .args .i) (s .pre .0 .0) (c .before .before .if1 .taken)) in
+    let l = gate-below (s .args .i) _ _ (first-gate (s .args .from .now) (s .args .i) (s .pre .0 .0) (omega (arith, c .before .before .if1 .taken))) in
     omega (arith, l .0, s .pre .1 .0 .1)
 
 mapped-requires-2 : tie.Need-mapped-requires-2
 mapped-requires-2 c κs =
     let s = c .before .before .before .before .before .before .before .before .before .before .before in
-    let l = gate-below (s .args .i) _ _ (first-gate (s .args .from .now) (s .args .i) (s .pre .0 .0) (c .before .before .before .before .if1 .taken)) in
+    let l = gate-below (s .args .i) _ _ (first-gate (s .args .from .now) (s .args .i) (s .pre .0 .0) (omega (arith, c .before .before .before .before .if1 .taken))) in
     omega (arith, l .1, s .pre .1 .0 .1)
 
 add-and-requires : tie.Need-add-and-requires
@@ -60,7 +60,7 @@ returns : tie.Need-returns
 returns c =
     let s = c .before .before .before .before .before .before .before .before .before .before .before .before .before .before .before in
     let a = s .args in
-    row-gate (a .from .now) (a .i) (frame (a .rows .now) (a .at .used) (a .inputs .now) (a .at .inputs) (a .map .now)) (first-gate (a .from .now) (a .i) (s .pre .0 .0) (c .before .before .before .before .before .before .before .before .if1 .taken))
+    row-gate (a .from .now) (a .i) (frame (a .rows .now) (a .at .used) (a .inputs .now) (a .at .inputs) (a .map .now)) (first-gate (a .from .now) (a .i) (s .pre .0 .0) (omega (arith, c .before .before .before .before .before .before .before .before .if1 .taken)))
     (c .before .before .before .before .before .mapped .ensures) (c .before .before .before .mapped2 .ensures) _ (c .before .before .add-and .ensures)
 
 mul-if2 : tie.Need-mul-if2
@@ -103,14 +103,14 @@ returns-2 : tie.Need-returns-2
 returns-2 c =
     let s = c .before .before .before .before .before .before .before .before .before .before .before .before .before .before .before .before .before .before .before in
     let a = s .args in
-    row-leaf (a .from .now) (a .i) (frame (a .rows .now) (a .at .used) (a .inputs .now) (a .at .inputs) (a .map .now)) (else-no-gate (a .from .now) (a .i) (s .pre .0 .1) (c .before .before .before .before .before .before .before .before .before .before .before .before .if1 .left))
+    row-leaf (a .from .now) (a .i) (frame (a .rows .now) (a .at .used) (a .inputs .now) (a .at .inputs) (a .map .now)) (else-no-gate (a .from .now) (a .i) (s .pre .0 .1) (omega (arith, c .before .before .before .before .before .before .before .before .before .before .before .before .if1 .left)))
     (c .before .before .before .before .before .before .before .before .before .before .if2 .taken) (c .before .before .before .before .before .before .before .add-leaf .ensures .0) (c .before .before .before .before .before .before .before .add-leaf .ensures .1)
 
 returns-3 : tie.Need-returns-3
 returns-3 c =
     let s = c .before .before .before .before .before .before .before .before .before in
     let a = s .args in
-    row-stays (a .from .now) (a .i) (frame (a .rows .now) (a .at .used) (a .inputs .now) (a .at .inputs) (a .map .now)) (else-no-gate (a .from .now) (a .i) (s .pre .0 .1) (c .before .before .if1 .left)) (c .if2 .left)
+    row-stays (a .from .now) (a .i) (frame (a .rows .now) (a .at .used) (a .inputs .now) (a .at .inputs) (a .map .now)) (else-no-gate (a .from .now) (a .i) (s .pre .0 .1) (omega (arith, c .before .before .if1 .left))) (c .if2 .left)
 
 pub frame-row-spec : {M : Type 1} → statement M
 frame-row-spec =
