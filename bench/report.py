@@ -18,7 +18,7 @@ compiled with -O2 for x86-64 in the same run. Before that it gives both the same
 
 The graphs (`bench/graphs.c`) have a leaf in 16 rows, half of them inputs and half latches; gates over mostly near fanins, among them exclusive ors and if-then-elses; and
 a root in 64 rows in each list. Rows are those of the graph that is read, or, where a call adds rows, those lent for the result: `merge` and `unroll` work on two graphs of
-half as many, `unroll_to` adds three frames to a quarter. `cnf` has the shortcuts on, and a buffer of 16 words a row.
+half as many, `unroll_to` adds three frames to a quarter; of `aig_move`, `compress_property` and `gate_init_to_constraint` a sixteenth of the rows is free. `cnf` has the shortcuts on, and a buffer of 16 words a row.
 
 `unroll`, `unroll_to`, `gate_init_to_constraint` and `cnf` have to know their need before they write. The C counts it only where the most that they can need does not fit; here it fits.
 """
