@@ -1,31 +1,8 @@
 /* Every call on a whole graph, by the library and in plain C. `told` has the answer's number and place, then the counts or what else is answered. */
-#include <stdbool.h>
 #include <string.h>
 
 #include "cases.h"
-
-#define IN const uint32_t *, size_t
-#define OUT uint32_t *, size_t
-#define TELL uint64_t *, size_t
-#define COUNTED const uint64_t *, size_t
-#define GRAPH_IN IN, IN, IN, IN, IN, IN, IN, IN, IN
-#define GRAPH_OUT OUT, OUT, OUT, OUT, OUT, OUT, OUT, OUT, OUT
-#define CODES_IN const uint8_t *, size_t
-#define CODES_OUT uint8_t *, size_t
-void sulandiro_check(GRAPH_IN, COUNTED, OUT, TELL);
-void sulandiro_merge(GRAPH_OUT, COUNTED, GRAPH_IN, COUNTED, OUT, TELL);
-void sulandiro_reencode(GRAPH_IN, COUNTED, GRAPH_OUT, OUT, TELL);
-void sulandiro_coi_refine(GRAPH_IN, COUNTED, GRAPH_OUT, OUT, OUT, TELL);
-void sulandiro_unroll(GRAPH_OUT, COUNTED, GRAPH_IN, COUNTED, OUT, TELL);
-void sulandiro_unroll_to(GRAPH_IN, COUNTED, uint64_t, GRAPH_OUT, OUT, TELL);
-void sulandiro_aig_move(GRAPH_IN, COUNTED, GRAPH_OUT, OUT, TELL);
-void sulandiro_compress_property(OUT, IN, IN, IN, OUT, IN, IN, IN, IN, COUNTED, OUT, OUT, TELL);
-void sulandiro_gate_init_to_constraint(OUT, IN, OUT, OUT, IN, IN, IN, IN, IN, COUNTED, OUT, TELL);
-void sulandiro_fanin_logic_cone(GRAPH_IN, COUNTED, IN, OUT, OUT, TELL);
-void sulandiro_coi(GRAPH_IN, COUNTED, IN, OUT, OUT, OUT, TELL);
-void sulandiro_ternary_simulate(GRAPH_IN, COUNTED, CODES_IN, CODES_IN, CODES_OUT, OUT, TELL);
-void sulandiro_simulate(GRAPH_IN, COUNTED, CODES_IN, CODES_OUT, CODES_OUT, OUT, TELL);
-void sulandiro_cnf(GRAPH_IN, COUNTED, bool, OUT, OUT, TELL);
+#include "sulandiro.h"
 
 #define S(s) (s).at, (s).len
 #define G(g) S((g).rows), S((g).inputs), S((g).latches), S((g).constraints), S((g).bads), S((g).outputs), S((g).ends), S((g).edges), S((g).fairness)

@@ -6,7 +6,7 @@
 
 #include "graphs.h"
 
-/* The largest case takes 13 slices of 2^20 rows or less and clauses of 16 words a gate. */
+/* Enough for the largest case: a graph of 2^20 rows, its work slices, and clauses of 16 words a gate. */
 enum { BLOCK = 160 << 20, GUARD = 64, FRAMES = 3 };
 
 void case_new(Case *c) {
@@ -64,15 +64,16 @@ void make_read(Case *c, size_t rows) {
     c->values = bytes(c, rows);
     make_codes(c->input);
     make_codes(c->state);
-    c->clauses = words(c, 2 + 16 * rows);
+    /* what is always enough; all leaves are listed, so the other rows but row 0 are gates */
+    size_t gates = rows - 1 - c->g.n.inputs - c->g.n.latches;
+    c->clauses = words(c, 2 + 16 * gates);
 }
 
-/* A graph of so many rows in a room, with the other slices of a call that rebuilds one. */
+/* A graph of so many rows in a room, with the marks of a call that rebuilds one. */
 static void make_rebuilt(Case *c, size_t rows, size_t room) {
     c->g = graph_room(c, room);
     fill_graph(&c->g, rows);
     c->marks = words(c, room);
-    c->old = words(c, room < MAX_ENTRIES ? room : MAX_ENTRIES);
 }
 
 void make_output(Case *c, size_t rows) {
@@ -84,6 +85,7 @@ void make_output(Case *c, size_t rows) {
 /* A sixteenth of the rows is free for what the call adds. */
 void make_grown(Case *c, size_t rows) {
     make_rebuilt(c, rows - rows / 16, rows);
+    c->old = words(c, rows < MAX_ENTRIES ? rows : MAX_ENTRIES);
     c->h = graph_room(c, rows);
 }
 

@@ -4,7 +4,8 @@
 
 #include "cases.h"
 
-/* Makes something wrong with what a call is lent, so that calls refuse it: also the C has to make every check. */
+/* Makes something wrong with what a call is lent, so that calls refuse it: the C is seen to check what DAMAGES names, and one row of a second graph. Not compared are the
+   limits on what is lent (rows, entries of a list, roots, ids, `old`), a short `stack`, and the other checks of a second graph. */
 typedef struct {
     const char *name;
     void (*make)(Case *);

@@ -2,7 +2,7 @@
  *
  * SLICES. All memory is the caller's. A slice is a pointer and a length in elements, not bytes. Of a slice of length 0 the pointer is never read, so
  * it may be null. A slice that a call writes must not overlap any other slice of that call: the proofs rest on it. The library keeps no pointer and
- * has no state of its own.
+ * has no state of its own. The archives are ELF for x86-64, called by the System V convention.
  *
  * EDGES AND ROWS. An edge is one word: 2*id, or 2*id + 1 if complemented. So 0 is false and 1 is true. A row is two words, and the row's number is
  * its id; an odd last word is no row. Row 0 is (4294967294, 0). A leaf, at any later row, is (4294967295, 0). A gate at row i is two edges, each
@@ -21,7 +21,7 @@
  *
  * COUNTS are nine words in the order of `enum sulandiro_count`: how much of each slice is in use. What is lent beyond is room. A word that is not
  * there counts as 0. At most 1,048,576 rows may be lent, and 65,536 entries a list: of a graph, of room for one, or of edges or ids that are an
- * argument.
+ * argument. Marks, stack, flags, values, clauses, the map of sulandiro_edge_map and old of sulandiro_coi_refine have no limit.
  *
  * TOLD. A call that can refuse writes what it answers into the slice `told`, as far as there is room: first the number and the place, then the
  * results, which each call names. The numbers, with the place (words 1, 2 and 3, else 0):
@@ -167,7 +167,8 @@ void sulandiro_fanin1(SULANDIRO_IN(rows), size_t used, uint32_t id, SULANDIRO_TE
 /* ---- Constructors. Archive liblend_build.a ----
  * They look at the counts and at the edges or ids given, and don't scan rows: 1 for the slices that are lent, 4 for an edge or id that is not used, 5
  * for a row or an entry that does not fit. New rows follow the used ones. Words 4 to 12: the counts afterwards (refused: as given); word 13: the edge
- * or id made, 0 where refused. The counts are read and never written: pass the told ones on. */
+ * or id made, 0 where refused. The counts are read and never written: for the next call copy them out of `told` first, since the two must not
+ * overlap. */
 
 /* Row 0 alone: 1 where too many rows are lent, 5 where none is. Refused, all counts are 0. */
 void sulandiro_new(SULANDIRO_OUT(rows), SULANDIRO_TELLS);
@@ -281,7 +282,7 @@ void sulandiro_unroll(SULANDIRO_GRAPH_OUT, SULANDIRO_COUNTED(counts), SULANDIRO_
 
 /* So many frames on a copy, in the second graph, which is room alone. 4 above 4,096 frames. Words 4 to 12: the copy's counts; word 13: the finished
  * frames. At 5 the copy and the finished frames stand; where the copy itself does not fit nothing is written, and words 4 to 13 are 0. Refused by 1
- * to 4 the counts are those given. Marks are needed for the given graph's rows alone. */
+ * to 4 the counts are those given, and word 13 is 0. Marks are needed for the given graph's rows alone. */
 void sulandiro_unroll_to(SULANDIRO_GRAPH_IN, SULANDIRO_COUNTED(counts), size_t frames, SULANDIRO_GRAPH2_OUT, SULANDIRO_OUT(marks), SULANDIRO_TELLS);
 
 /* ---- Properties: told as sulandiro_merge. Archive liblend_property.a ---- */

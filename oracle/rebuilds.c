@@ -1,4 +1,6 @@
 /* Replays a script of cases (FORMAT.md) of the calls that rebuild a graph, through the library for C, and writes what each call answers and leaves. */
+#include "sulandiro.h"
+
 #include <ctype.h>
 #include <stdint.h>
 #include <stdio.h>
@@ -13,19 +15,6 @@ typedef struct {
     size_t len;
     uint32_t *words;
 } Slot;
-
-#define IN const uint32_t *, size_t
-#define OUT uint32_t *, size_t
-#define GRAPH_IN IN, IN, IN, IN, IN, IN, IN, IN, IN
-#define GRAPH_OUT OUT, OUT, OUT, OUT, OUT, OUT, OUT, OUT, OUT
-void sulandiro_merge(GRAPH_OUT, const uint64_t *, size_t, GRAPH_IN, const uint64_t *, size_t, OUT, uint64_t *, size_t);
-void sulandiro_reencode(GRAPH_IN, const uint64_t *, size_t, GRAPH_OUT, OUT, uint64_t *, size_t);
-void sulandiro_coi_refine(GRAPH_IN, const uint64_t *, size_t, GRAPH_OUT, OUT, OUT, uint64_t *, size_t);
-void sulandiro_unroll(GRAPH_OUT, const uint64_t *, size_t, GRAPH_IN, const uint64_t *, size_t, OUT, uint64_t *, size_t);
-void sulandiro_unroll_to(GRAPH_IN, const uint64_t *, size_t, uint64_t, GRAPH_OUT, OUT, uint64_t *, size_t);
-void sulandiro_aig_move(GRAPH_IN, const uint64_t *, size_t, GRAPH_OUT, OUT, uint64_t *, size_t);
-void sulandiro_compress_property(OUT, IN, IN, IN, OUT, IN, IN, IN, IN, const uint64_t *, size_t, OUT, OUT, uint64_t *, size_t);
-void sulandiro_gate_init_to_constraint(OUT, IN, OUT, OUT, IN, IN, IN, IN, IN, const uint64_t *, size_t, OUT, uint64_t *, size_t);
 
 static Slot slots[SLOTS];
 static int order[SLOTS];

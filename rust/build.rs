@@ -3,6 +3,7 @@
 
 use std::env;
 use std::path::PathBuf;
+use std::process::exit;
 
 const FOLDER: &str = "SULANDIRO_ARCHIVES";
 const PARTS: [&str; 7] = [
@@ -10,6 +11,7 @@ const PARTS: [&str; 7] = [
 ];
 
 fn main() {
+    demand_x86_64();
     println!("cargo:rerun-if-env-changed={FOLDER}");
     let folder = folder();
     println!("cargo:rustc-link-search=native={}", folder.display());
@@ -18,9 +20,16 @@ fn main() {
         println!("cargo:rerun-if-changed={}", archive.display());
         println!("cargo:rustc-link-lib=static=lend_{part}");
     }
-    let machine = env::var("CARGO_CFG_TARGET_ARCH").unwrap_or_default();
-    if machine != "x86_64" {
-        println!("cargo:warning=the archives are for x86-64, and this is compiled for {machine}");
+}
+
+/// For another target the link would fail without a clear word, if at all.
+fn demand_x86_64() {
+    let target = ["ARCH", "POINTER_WIDTH", "OS"]
+        .map(|part| env::var(format!("CARGO_CFG_TARGET_{part}")).unwrap_or_default());
+    if target != ["x86_64", "64", "linux"] {
+        let triple = env::var("TARGET").unwrap_or_default();
+        eprintln!("the archives are for 64-bit x86-64 Linux, and this is compiled for {triple}");
+        exit(1);
     }
 }
 

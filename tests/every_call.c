@@ -175,8 +175,9 @@ static void leaves(void) {
     HOLDS(inputs, 1, 2);
     TELLS(0, 0, 0, 0, 3, 2, 1, OTHERS, 2);
     begin("sulandiro_add_input");
-    sulandiro_add_input(S(table), S(inputs), S(two_rows), 0, S(told));
-    HOLDS(inputs, 1, 0);
+    uint32_t listed[] = {1, U, U};
+    sulandiro_add_input(S(table), S(listed), S(two_rows), 0, S(told));
+    HOLDS(listed, 1, 0);
     TELLS(0, 0, 0, 0, 2, 2, 1, OTHERS, 0);
 }
 
@@ -188,8 +189,9 @@ static void latches(void) {
     HOLDS(latches, 1, 3, 0, 2, 3, 2);
     TELLS(0, 0, 0, 0, 3, 1, 2, OTHERS, 2);
     begin("sulandiro_add_latch");
-    sulandiro_add_latch(S(table), S(latches), S(two_rows), 1, 3, 2, S(told));
-    HOLDS(latches, 1, 3, 0, 1, 3, 2);
+    uint32_t listed[] = {1, 3, 0, U, U, U, U};
+    sulandiro_add_latch(S(table), S(listed), S(two_rows), 1, 3, 2, S(told));
+    HOLDS(listed, 1, 3, 0, 1, 3, 2);
     TELLS(0, 0, 0, 0, 2, 1, 2, OTHERS, 1);
 }
 

@@ -75,7 +75,7 @@ fn a_refusal_has_its_place() {
     assert_eq!(entry.to_string(), "edge 1 of justice set 1 is bad");
 }
 
-/// No slice is lent at all: every pointer dangles.
+/// No slice is lent at all, and in the last call no room: those pointers dangle.
 #[test]
 fn empty_slices_are_refused() {
     let nothing = Graph::default();

@@ -106,7 +106,7 @@ pub fn place_latch(
 }
 
 // Latch i of the flat table is written; past the table nothing is.
-pub fn put_latch(latches: &mut [u32], i: usize, l: Latch)
+fn put_latch(latches: &mut [u32], i: usize, l: Latch)
     ensures { λ _. ⌜ now (latches .exit) ≡ latchPut (now (latches .entry)) i l ⌝ }
 {
     if i < latches.len() / LATCH_WORDS {

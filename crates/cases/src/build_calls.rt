@@ -1,14 +1,14 @@
 // The constructors, 40 to 59. They write rows, and some of them a list too.
+use crate::arguments::counts;
+use crate::arguments::word;
+use crate::lending;
+use crate::outcome::Outcome;
+use crate::outcome::of_counts;
+use crate::outcome::unknown;
+use crate::slots;
+use crate::slots::words;
 use build::Added;
 use build::Built;
-use replay::arguments::counts;
-use replay::arguments::word;
-use replay::lending;
-use replay::outcome::Outcome;
-use replay::outcome::of_counts;
-use replay::outcome::unknown;
-use replay::slots;
-use replay::slots::words;
 
 pub fn run(
     call: u64,

@@ -1,13 +1,13 @@
 // The check of a graph, 30.
+use crate::arguments::counts;
+use crate::lending;
+use crate::outcome::Outcome;
+use crate::outcome::of_answer;
+use crate::outcome::unknown;
+use crate::slots;
+use crate::slots::MARKS;
+use crate::slots::words;
 use edge::Answer;
-use replay::arguments::counts;
-use replay::lending;
-use replay::outcome::Outcome;
-use replay::outcome::of_answer;
-use replay::outcome::unknown;
-use replay::slots;
-use replay::slots::MARKS;
-use replay::slots::words;
 
 // The call writes the marks.
 pub fn run(arena: &mut [u32], scalars: &[u64], marks: &mut [u32]) -> Outcome {

@@ -1,15 +1,15 @@
 // The clauses of a graph, 100.
 ghost use Prim.Native.Nat.{_≤_};
 ghost use lib.ListN.{length};
+use crate::arguments::counts;
+use crate::arguments::truth;
+use crate::lending;
+use crate::outcome::Outcome;
+use crate::outcome::of_size;
+use crate::outcome::unknown;
+use crate::slots;
+use crate::slots::words;
 use cnf::ClausesAnswer;
-use replay::arguments::counts;
-use replay::arguments::truth;
-use replay::lending;
-use replay::outcome::Outcome;
-use replay::outcome::of_size;
-use replay::outcome::unknown;
-use replay::slots;
-use replay::slots::words;
 
 // How many words the slots have.
 struct Lengths {

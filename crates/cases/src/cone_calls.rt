@@ -1,14 +1,14 @@
 // The cones, 60 and 61.
 ghost use Prim.Native.Nat.{_≤_};
 ghost use lib.ListN.{length};
+use crate::arguments::counts;
+use crate::lending;
+use crate::outcome::Outcome;
+use crate::outcome::of_answer;
+use crate::outcome::unknown;
+use crate::slots;
+use crate::slots::words;
 use edge::Answer;
-use replay::arguments::counts;
-use replay::lending;
-use replay::outcome::Outcome;
-use replay::outcome::of_answer;
-use replay::outcome::unknown;
-use replay::slots;
-use replay::slots::words;
 
 // How many words the slots have.
 struct Lengths {

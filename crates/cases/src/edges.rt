@@ -1,13 +1,13 @@
 // The calls on edges, 1 to 11.
+use crate::arguments::truth;
+use crate::arguments::word;
+use crate::outcome::Outcome;
+use crate::outcome::of_bool_answer;
+use crate::outcome::of_edge_answer;
+use crate::outcome::of_truth;
+use crate::outcome::of_word;
+use crate::outcome::unknown;
 use edge::MaybeConstant;
-use replay::arguments::truth;
-use replay::arguments::word;
-use replay::outcome::Outcome;
-use replay::outcome::of_bool_answer;
-use replay::outcome::of_edge_answer;
-use replay::outcome::of_truth;
-use replay::outcome::of_word;
-use replay::outcome::unknown;
 
 pub fn run(call: u64, scalars: &[u64], map: &[u32]) -> Outcome {
     if call < 7 {

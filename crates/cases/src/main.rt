@@ -1,17 +1,22 @@
 // Replays a script of cases from standard input, and writes what each call answers and leaves.
+mod arguments;
 mod build_calls;
 mod check_call;
 mod cnf_call;
 mod cone_calls;
 mod edges;
+mod lending;
+mod outcome;
+mod reader;
+mod report;
 mod row_calls;
+mod run;
+mod script;
+mod slots;
 mod ternary_calls;
+mod writer;
 
-use replay::outcome;
-use replay::outcome::Outcome;
-use replay::reader;
-use replay::script;
-use replay::slots;
+use outcome::Outcome;
 
 // The arena holds 600,000 words, and three words more for each of 32 slots.
 fn main() {
@@ -81,7 +86,7 @@ fn start(
     state: &mut [u8],
     values: &mut [u8],
 ) {
-    let mut run = replay::begun();
+    let mut run = run::begun();
     let mut turns = u64::MAX;
     while turns > 0 && reader::is_good(run.reader) {
         turns -= 1;
@@ -97,9 +102,9 @@ fn start(
             state,
             values,
         );
-        run = replay::written(output, arena, run.writer, case, o);
+        run = run::written(output, arena, run.writer, case, o);
     }
-    replay::finish(output, run);
+    run::finish(output, run);
 }
 
 // Makes the call. An array takes the words of a slot that the call writes to.

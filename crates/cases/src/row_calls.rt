@@ -1,11 +1,11 @@
 // The calls on rows, 20 to 24.
-use replay::arguments::size;
-use replay::arguments::word;
-use replay::outcome::Outcome;
-use replay::outcome::of_bool_answer;
-use replay::outcome::of_edge_answer;
-use replay::outcome::of_pair;
-use replay::outcome::unknown;
+use crate::arguments::size;
+use crate::arguments::word;
+use crate::outcome::Outcome;
+use crate::outcome::of_bool_answer;
+use crate::outcome::of_edge_answer;
+use crate::outcome::of_pair;
+use crate::outcome::unknown;
 use rows::Fanins;
 
 pub fn run(call: u64, scalars: &[u64], words: &[u32]) -> Outcome {

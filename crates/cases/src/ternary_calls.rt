@@ -1,17 +1,17 @@
 // Ternary simulation, 90 to 92.
 ghost use Prim.Native.Nat.{_≤_};
 ghost use lib.ListN.{length};
+use crate::arguments::counts;
+use crate::arguments::size;
+use crate::arguments::word;
+use crate::lending;
+use crate::outcome::Outcome;
+use crate::outcome::of_answer;
+use crate::outcome::of_pair;
+use crate::outcome::unknown;
+use crate::slots;
+use crate::slots::words;
 use edge::Answer;
-use replay::arguments::counts;
-use replay::arguments::size;
-use replay::arguments::word;
-use replay::lending;
-use replay::outcome::Outcome;
-use replay::outcome::of_answer;
-use replay::outcome::of_pair;
-use replay::outcome::unknown;
-use replay::slots;
-use replay::slots::words;
 use ternary::ValueAnswer;
 
 // How many words and bytes the slots have.

@@ -13,10 +13,14 @@ use Rattle.edge.specs.declared.answer.Answer.{Answer}
 use Rattle.edge.specs.declared.answer.Answer.the-variants.{Done, NoRoom}
 use Rattle.edge.specs.Answers.{done, noRoom, told, orElse}
 use Rattle.edge.proofs.Answers.{test-done, test-refused, goes-past}
+use Rattle.rows.specs.Sizes.{maxRows}
+use Rattle.rows.specs.Rows.{gateAt}
 use Rattle.graph.specs.Graph.{Lent, Sized}
+use Rattle.graph.specs.Count.{gatesBelow}
 use Rattle.graph.specs.Check.{CheckSeen, checkSeen, checkCall, cleared}
 use Rattle.graph.specs.WellFormed.{WellFormed}
 use Rattle.graph.proofs.WellFormed.{exact}
+use Rattle.graph.proofs.Counting.{count-within}
 use Rattle.roots.specs.Marking.{markEdges}
 use Rattle.roots.specs.Roots.{RootsFit, rootsOf}
 use Rattle.roots.proofs.Flagging.{cleared-all}
@@ -26,7 +30,7 @@ use Rattle.shapes.specs.Shapes.{unit, words, WrittenIfRoom}
 use Rattle.cnf.specs.Clauses.{walk, clausesIn, cnfOf}
 use Rattle.cnf.specs.Call.{cnfAnswer, cnfSeen, writtenOver, cnfCall, Ready}
 use Rattle.shapes.proofs.Writing.{sets-both}
-use Rattle.cnf.proofs.Decoding.{clauses-most}
+use Rattle.cnf.proofs.Decoding.{clauses-few, clauses-most}
 
 -- a run of stores from the start
 pub sets-over : (l ws : List ℕ) → length ws ≤ length l → sets l 0 ws ≡ writtenOver ws l
@@ -68,6 +72,13 @@ module _ (shortcuts : Bool) (rows roots marks : List ℕ) (r : Ready rows (lengt
 module _ (shortcuts : Bool) (rows roots marks : List ℕ) (room : ℕ) where
   pub room-for-most : Ready rows (length marks) roots marks → 2 + 16 * (length marks - 1) ≤ room → true ≡ leb (length (words (clausesIn shortcuts rows (length marks) roots))) room
   room-for-most r l = sym (le-leb (length (words (clausesIn shortcuts rows (length marks) roots))) room (omega (arith, l, clauses-most shortcuts rows (length marks) roots (r .some-row))))
+
+  pub room-for-gates : {gates : ℕ} → gates ≡ gatesBelow rows (length marks) → 2 + 16 * gates ≤ room → true ≡ leb (length (words (clausesIn shortcuts rows (length marks) roots))) room
+  room-for-gates e l = sym (le-leb (length (words (clausesIn shortcuts rows (length marks) roots))) room (omega (arith, e, l, clauses-few shortcuts rows (length marks) roots)))
+
+-- the words for so many gates can be counted
+pub gates-few : (rows : List ℕ) {used gates : ℕ} → gates ≡ gatesBelow rows used → used ≤ maxRows → gates ≤ maxRows
+gates-few rows {used} e few = omega (arith, e, few, count-within (gateAt rows) used)
 
 -- ---- the call, where the check has answered a and left the marks `after`, and d says whether it is done
 module _ (g : Lent) (shortcuts : Bool) (clauses marks : List ℕ) (a : Answer) {after : List ℕ} (seen : checkSeen a after ≡ checkCall g marks) {d : Bool} (test : d ≡ eqb (told a .number) 0) where

@@ -2,9 +2,11 @@
 mod walk;
 
 ghost use mathlib.Core.Path.{_≡_};
+ghost use Prim.Native.Nat.{_*_, _≤_};
 ghost use lib.ListN.{length};
 ghost use lib.Dec.{leb};
 ghost use Rattle.graph.specs.Graph.{lent};
+ghost use Rattle.graph.specs.Count.{gatesBelow};
 ghost use Rattle.roots.specs.Roots.{RootsFit, rootsIn};
 ghost use Rattle.shapes.specs.Shapes.{words, WrittenIfRoom};
 ghost use Rattle.cnf.specs.Clauses.{clausesIn};
@@ -13,6 +15,7 @@ use edge::Answer;
 use graph::Counts;
 use graph::marks::clear;
 use roots::mark_roots;
+use rows::kinds::is_gate;
 use shapes::put::put_unit;
 use walk::put_rows;
 
@@ -66,7 +69,22 @@ fn put_words(
     end
 }
 
-// Is there room for the clauses? They are at most 2 + 16·gates words, and row 0 is no gate: where there is room for so many, the need is not counted. The marks are 0 before and after.
+// How many gates are among the first n rows.
+fn gates_below(rows: &[u32], n: usize) -> usize
+    requires { ⌜ 2 * n ≤ length (now rows) ⌝ }
+    ensures { λ r. ⌜ r ≡ gatesBelow (now (rows .entry)) n ⌝ }
+{
+    let mut gates: usize = 0;
+    for i in 0..n {
+        if is_gate(i, rows[2 * i], rows[2 * i + 1]) {
+            gates += 1;
+        }
+    }
+    gates
+}
+
+// Is there room for the clauses? They are at most 2 + 16·gates words, and row 0 is no gate: where there is room for that, were every other row a gate, the gates are not counted, and where
+// there is room for that, the need is not. The marks are 0 before and after.
 fn has_room(
     rows: &[u32],
     latches: &[u32],
@@ -91,6 +109,9 @@ fn has_room(
     let used = marks.len();
     let most = 2 + 16 * (used - 1);
     if most <= room {
+        return true;
+    }
+    if 2 + 16 * gates_below(rows, used) <= room {
         return true;
     }
     let mut nothing = [0u32; 0];

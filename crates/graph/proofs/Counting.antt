@@ -30,6 +30,17 @@ module _ (p : ℕ → Bool) where
       go true h = omega arith
       go false h = omega arith
 
+module _ (p : ℕ → Bool) (i : ℕ) {k : ℕ} (e : k ≡ countBelow p i) where
+  pub count-taken : {k′ : ℕ} → p i ≡ true → k′ ≡ k + 1 → k′ ≡ countBelow p (i + 1)
+  count-taken t q = q ∙ rw (count-more p i, t, e)
+
+  pub count-left : {k′ : ℕ} → p i ≡ false → k′ ≡ k → k′ ≡ countBelow p (i + 1)
+  count-left t q = q ∙ rw (count-more p i, t, e)
+
+  pub count-small : k ≤ i
+  count-small = omega (arith, count-within p i)
+
+module _ (p : ℕ → Bool) where
   pub count-rises : (n i : ℕ) → i ≤ n → countBelow p i ≤ countBelow p n
   unfolding countBelow
   count-rises zero i l = let e : i ≡ 0 = omega arith in rw e (omega arith)

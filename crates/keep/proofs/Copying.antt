@@ -14,11 +14,10 @@ use Rattle.rows.specs.Rows.{none, word0, word1, gateAt}
 use Rattle.rows.proofs.Laws.{gate-below}
 use Rattle.graph.specs.Count.{countBelow}
 use Rattle.renumber.specs.Renumber.{renamed, Known, MappedEdge}
-use Rattle.graph.proofs.Counting.{count-past, count-same}
+use Rattle.graph.proofs.Counting.{count-taken, count-left, count-past, count-same}
 use Rattle.keep.specs.Keeping.{keptWritten, wordPut}
 use Rattle.keep.specs.Copying.{rowWord, rowPut}
 use Rattle.keep.specs.Ready.{WordReady}
-use Rattle.keep.proofs.Numbering.{count-taken, count-left}
 
 -- ---- a loop that keeps, before thing i
 pub record Keeping (p : ℕ → Bool) (put : List ℕ → ℕ → ℕ → List ℕ) (out : List ℕ) (i : ℕ) (now : List ℕ) (k : ℕ) : Type 0 where

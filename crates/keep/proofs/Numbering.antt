@@ -17,20 +17,9 @@ use Rattle.graph.specs.Count.{countBelow}
 use Rattle.renumber.specs.Writing.{written}
 use Rattle.renumber.specs.Renumber.{by}
 use Rattle.renumber.specs.Map.{Holds, Small}
-use Rattle.graph.proofs.Counting.{count-more, count-within, count-past, count-same}
+use Rattle.graph.proofs.Counting.{count-taken, count-left, count-within, count-past, count-same}
 use Rattle.renumber.proofs.Writing.{written-length, written-turn, written-after, written-at}
 use Rattle.keep.specs.Keeping.{keptRow, newId, newIds, numbered, keptInput}
-
--- ---- a turn of a loop that counts
-module _ (p : ℕ → Bool) (i : ℕ) {k : ℕ} (e : k ≡ countBelow p i) where
-  pub count-taken : {k′ : ℕ} → p i ≡ true → k′ ≡ k + 1 → k′ ≡ countBelow p (i + 1)
-  count-taken t q = q ∙ rw (count-more p i, t, e)
-
-  pub count-left : {k′ : ℕ} → p i ≡ false → k′ ≡ k → k′ ≡ countBelow p (i + 1)
-  count-left t q = q ∙ rw (count-more p i, t, e)
-
-  pub count-small : k ≤ i
-  count-small = omega (arith, count-within p i)
 
 -- ---- the loop that numbers, before row i
 pub record Numbering (flags : List ℕ) (i : ℕ) (now : List ℕ) (k : ℕ) : Type 0 where

@@ -10,6 +10,7 @@ use Rattle.graph.specs.Graph.{Lent, lent}
 use Rattle.renumber.specs.declared.Rebuilt.{Rebuilt}
 use Rattle.renumber.specs.Seen.{RebuiltSeen, rebuiltSeen, SameRebuilt}
 use Rattle.aig_move.specs.Call.{moveCall}
+use Rattle.records.specs.Held.{held}
 use Rattle.records.specs.Pairing.{pairSeen, onBothRecords}
 use Rattle.record_output.specs.Same.{rebuilt-pair-determined}
 
@@ -23,7 +24,7 @@ abbrev pub moveRefused : List ℕ → List ℕ → List ℕ → List ℕ → Lis
 moveRefused rows2 inputs2 constraints2 bads2 outputs2 ends2 edges2 fairness2 counts marks latches2 = record { given = badSizes; graph = lent rows2 inputs2 latches2 constraints2 bads2 outputs2 ends2 edges2 fairness2 counts; marks = marks }
 
 -- any two results that the promise allows are equal: the answer, every word and record of the output with the counts, the marks and the work words
-pub aig-move-determined : (t2 : List Latch) (words2 : List ℕ) (t : List Latch) (words : List ℕ) (call : List ℕ → List ℕ → RebuiltSeen) (refused : List ℕ → RebuiltSeen) (r s : Rebuilt) (g h : Lent) (m n v w x y : List ℕ)
-    → pairSeen (rebuiltSeen r g m) v x ≡ onBothRecords t2 words2 t words call refused → pairSeen (rebuiltSeen s h n) w y ≡ onBothRecords t2 words2 t words call refused
-    → SameRebuilt r g m s h n × (v ≡ w) × (x ≡ y)
+pub aig-move-determined : (t2 : List Latch) (words2 : List ℕ) (t : List Latch) (words : List ℕ) (call : List ℕ → List ℕ → RebuiltSeen) (refused : List ℕ → RebuiltSeen) (r s : Rebuilt) (g h : Lent) (u v : List Latch) (m n x y x2 y2 : List ℕ)
+    → pairSeen (rebuiltSeen r (held g u) m) x x2 ≡ onBothRecords t2 words2 t words call refused → pairSeen (rebuiltSeen s (held h v) n) y y2 ≡ onBothRecords t2 words2 t words call refused
+    → SameRebuilt r (held g u) m s (held h v) n × (u ≡ v) × (x ≡ y) × (x2 ≡ y2)
 aig-move-determined = rebuilt-pair-determined

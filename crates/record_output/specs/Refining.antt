@@ -10,6 +10,7 @@ use Rattle.graph.specs.Graph.{Lent, lent}
 use Rattle.renumber.specs.declared.Rebuilt.{Rebuilt}
 use Rattle.renumber.specs.Seen.{ListedSeen, listedSeen, SameListed, listed-determined}
 use Rattle.refine.specs.Call.{refineCall}
+use Rattle.records.specs.Held.{held, held-same}
 use Rattle.records.specs.Pairing.{pairSeen, onBothRecords, pair-determined}
 
 -- the flat call, with the latches' words last: those of the output, which it writes, then those of the given graph
@@ -22,9 +23,10 @@ abbrev pub refineRefused : List ℕ → List ℕ → List ℕ → List ℕ → L
 refineRefused rows2 inputs2 constraints2 bads2 outputs2 ends2 edges2 fairness2 counts old marks latches2 = record { given = badSizes; graph = lent rows2 inputs2 latches2 constraints2 bads2 outputs2 ends2 edges2 fairness2 counts; old = old; marks = marks }
 
 -- any two results that the promise allows are equal: the answer, every word and record of the output with the counts, the new-to-old list, the marks and the work words
-pub coi-refine-determined : (t2 : List Latch) (words2 : List ℕ) (t : List Latch) (words : List ℕ) (call : List ℕ → List ℕ → ListedSeen) (refused : List ℕ → ListedSeen) (r s : Rebuilt) (g h : Lent) (o p m n v w x y : List ℕ)
-    → pairSeen (listedSeen r g o m) v x ≡ onBothRecords t2 words2 t words call refused → pairSeen (listedSeen s h p n) w y ≡ onBothRecords t2 words2 t words call refused
-    → SameListed r g o m s h p n × (v ≡ w) × (x ≡ y)
-coi-refine-determined t2 words2 t words call refused r s g h o p m n v w x y a b =
-    let e = pair-determined t2 words2 t words call refused (listedSeen r g o m) (listedSeen s h p n) v w x y a b in
-    (listed-determined (λ (z : ListedSeen). z) (listedSeen s h p n) r s g h o p m n (e .0) refl, e .1, e .2)
+pub coi-refine-determined : (t2 : List Latch) (words2 : List ℕ) (t : List Latch) (words : List ℕ) (call : List ℕ → List ℕ → ListedSeen) (refused : List ℕ → ListedSeen) (r s : Rebuilt) (g h : Lent) (u v : List Latch) (o p m n x y x2 y2 : List ℕ)
+    → pairSeen (listedSeen r (held g u) o m) x x2 ≡ onBothRecords t2 words2 t words call refused → pairSeen (listedSeen s (held h v) p n) y y2 ≡ onBothRecords t2 words2 t words call refused
+    → SameListed r (held g u) o m s (held h v) p n × (u ≡ v) × (x ≡ y) × (x2 ≡ y2)
+coi-refine-determined t2 words2 t words call refused r s g h u v o p m n x y x2 y2 a b =
+    let e = pair-determined t2 words2 t words call refused (listedSeen r (held g u) o m) (listedSeen s (held h v) p n) x y x2 y2 a b in
+    let d = listed-determined (λ (z : ListedSeen). z) (listedSeen s (held h v) p n) r s (held g u) (held h v) o p m n (e .0) refl in
+    (d, held-same g h u v (d .1), e .1, e .2)

@@ -10,6 +10,7 @@ use Rattle.graph.specs.Graph.{Lent, lent}
 use Rattle.renumber.specs.declared.Rebuilt.{Rebuilt}
 use Rattle.renumber.specs.Seen.{RebuiltSeen, rebuiltSeen, SameRebuilt, rebuilt-determined}
 use Rattle.property.specs.GateInit.{gateInitCall}
+use Rattle.records.specs.Held.{held, held-same}
 use Rattle.records.specs.Working.{worked, onRecords, worked-determined}
 use Rattle.records.specs.Pairing.{Fronted, onBoth}
 
@@ -28,9 +29,10 @@ gateInitRefused rows inputs constraints bads outputs ends edges fairness counts 
     record { given = badSizes; graph = lent rows inputs latches constraints bads outputs ends edges fairness counts; marks = marks }
 
 -- any two results that the promise allows are equal: the answer, every word and record with the counts, the marks and the work words
-pub gate-init-determined : (t : List Latch) (words : List ℕ) (call : List ℕ → RebuiltSeen) (refused : RebuiltSeen) (r s : Rebuilt) (g h : Lent) (m n x y : List ℕ)
-    → worked (rebuiltSeen r g m) x ≡ onRecords t words call refused → worked (rebuiltSeen s h n) y ≡ onRecords t words call refused
-    → SameRebuilt r g m s h n × (x ≡ y)
-gate-init-determined t words call refused r s g h m n x y e f =
-    let d = worked-determined t words call refused (rebuiltSeen r g m) (rebuiltSeen s h n) x y e f in
-    (rebuilt-determined (λ (z : RebuiltSeen). z) (rebuiltSeen s h n) r s g h m n (d .0) refl, d .1)
+pub gate-init-determined : (t : List Latch) (words : List ℕ) (call : List ℕ → RebuiltSeen) (refused : RebuiltSeen) (r s : Rebuilt) (g h : Lent) (u v : List Latch) (m n x y : List ℕ)
+    → worked (rebuiltSeen r (held g u) m) x ≡ onRecords t words call refused → worked (rebuiltSeen s (held h v) n) y ≡ onRecords t words call refused
+    → SameRebuilt r (held g u) m s (held h v) n × (u ≡ v) × (x ≡ y)
+gate-init-determined t words call refused r s g h u v m n x y p q =
+    let e = worked-determined t words call refused (rebuiltSeen r (held g u) m) (rebuiltSeen s (held h v) n) x y p q in
+    let d = rebuilt-determined (λ (z : RebuiltSeen). z) (rebuiltSeen s (held h v) n) r s (held g u) (held h v) m n (e .0) refl in
+    (d, held-same g h u v (d .1), e .1)

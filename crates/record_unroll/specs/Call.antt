@@ -10,6 +10,7 @@ use Rattle.graph.specs.Graph.{Lent, lent}
 use Rattle.renumber.specs.declared.Rebuilt.{Rebuilt}
 use Rattle.renumber.specs.Seen.{RebuiltSeen, rebuiltSeen, SameRebuilt, rebuilt-determined}
 use Rattle.unroll.specs.Unroll.{unrollCall}
+use Rattle.records.specs.Held.{held, held-same}
 use Rattle.records.specs.Pairing.{pairSeen, onBothRecords, pair-determined}
 
 -- the flat call, with the latches' words of both graphs last
@@ -22,9 +23,10 @@ abbrev pub unrollRefused : List ℕ → List ℕ → List ℕ → List ℕ → L
 unrollRefused rows inputs constraints bads outputs ends edges fairness counts marks latches = record { given = badSizes; graph = lent rows inputs latches constraints bads outputs ends edges fairness counts; marks = marks }
 
 -- any two results that the promise allows are equal: the answer, every word and record with the counts, the marks and the work words
-pub unroll-determined : (t : List Latch) (words : List ℕ) (t2 : List Latch) (words2 : List ℕ) (call : List ℕ → List ℕ → RebuiltSeen) (refused : List ℕ → RebuiltSeen) (r s : Rebuilt) (g h : Lent) (m n v w x y : List ℕ)
-    → pairSeen (rebuiltSeen r g m) v x ≡ onBothRecords t words t2 words2 call refused → pairSeen (rebuiltSeen s h n) w y ≡ onBothRecords t words t2 words2 call refused
-    → SameRebuilt r g m s h n × (v ≡ w) × (x ≡ y)
-unroll-determined t words t2 words2 call refused r s g h m n v w x y p q =
-    let e = pair-determined t words t2 words2 call refused (rebuiltSeen r g m) (rebuiltSeen s h n) v w x y p q in
-    (rebuilt-determined (λ (z : RebuiltSeen). z) (rebuiltSeen s h n) r s g h m n (e .0) refl, e .1, e .2)
+pub unroll-determined : (t : List Latch) (words : List ℕ) (t2 : List Latch) (words2 : List ℕ) (call : List ℕ → List ℕ → RebuiltSeen) (refused : List ℕ → RebuiltSeen) (r s : Rebuilt) (g h : Lent) (u v : List Latch) (m n x y x2 y2 : List ℕ)
+    → pairSeen (rebuiltSeen r (held g u) m) x x2 ≡ onBothRecords t words t2 words2 call refused → pairSeen (rebuiltSeen s (held h v) n) y y2 ≡ onBothRecords t words t2 words2 call refused
+    → SameRebuilt r (held g u) m s (held h v) n × (u ≡ v) × (x ≡ y) × (x2 ≡ y2)
+unroll-determined t words t2 words2 call refused r s g h u v m n x y x2 y2 p q =
+    let e = pair-determined t words t2 words2 call refused (rebuiltSeen r (held g u) m) (rebuiltSeen s (held h v) n) x y x2 y2 p q in
+    let d = rebuilt-determined (λ (z : RebuiltSeen). z) (rebuiltSeen s (held h v) n) r s (held g u) (held h v) m n (e .0) refl in
+    (d, held-same g h u v (d .1), e .1, e .2)

@@ -10,7 +10,7 @@ use lib.Seq.{ext-getD, drop-cons}
 use borrow.Author.Tests.{ltb-true, leb-true, lt-ltb}
 use Rattle.graph.specs.declared.latch.Latch.{Latch}
 use Rattle.graph.specs.Latches.{latchWords, latchesLent, latchAt}
-use Rattle.records.specs.Table.{wordsOf, roomFor, takeNext, takeAll, backFrom, back, nextsBack, recordsBack, noLatch}
+use Rattle.records.specs.Table.{wordsOf, same-table, roomFor, takeNext, takeAll, backFrom, back, nextsBack, recordsBack, noLatch}
 use Rattle.records.specs.Entries.{there}
 use Rattle.records.specs.Meaning.{RecordsRight}
 use Rattle.records.proofs.Laying.{thrice, words-length, latch-of-words}
@@ -18,11 +18,6 @@ use Rattle.records.proofs.Nexting.{back-length, back-at}
 
 lends : (t : List Latch) → latchesLent (wordsOf t) ≡ length t
 lends t = omega (arith, words-length t)
-
-same-records : (t u : List Latch) → wordsOf t ≡ wordsOf u → t ≡ u
-same-records t u e =
-    let n : length t ≡ length u = sym (lends t) ∙ (ap latchesLent e ∙ lends u) in
-    ext-getD noLatch t u n (λ i h. sym (latch-of-words t i) ∙ (ap (λ (w : List ℕ). latchAt w i) e ∙ latch-of-words u i))
 
 module _ (f : Latch → Latch → Latch) (t : List Latch) (words : List ℕ) where
   back-kept : length (back f t words) ≡ length t
@@ -96,7 +91,7 @@ pub records-right : (t : List Latch) → RecordsRight t
 records-right t = record {
   latch = latch-of-words t;
   lent = lends t;
-  same = same-records t;
+  same = same-table t;
   next = λ words i. back-next takeNext t words i;
   kept = λ words. back-kept takeNext t words;
   round = own-back takeNext (λ l. refl) t;

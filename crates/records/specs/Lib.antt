@@ -2,6 +2,7 @@ pub mod Adding
 pub mod Checking
 pub mod Counts
 pub mod Entries
+pub mod Held
 pub mod Meaning
 pub mod Pairing
 pub mod Table

@@ -1,7 +1,7 @@
 -- The latch table as records: "The latch table is a lent slice of latch records".
 -- Assumes nothing.
 use Prim.Native.Nat.{ℕ, suc, _*_}
-use mathlib.Core.Path.{_≡_}
+use mathlib.Core.Path.{_≡_, refl, sym, ap, _∙_}
 use mathlib.Core.Bool.{Bool, cond}
 use mathlib.Core.List.{List, [], _∷_, _++_}
 use lib.ListN.{length, drop}
@@ -15,6 +15,21 @@ use Rattle.graph.specs.Check.{cleared}
 abbrev pub wordsOf : List Latch → List ℕ
 wordsOf [] = []
 wordsOf (l ∷ t) = l .input ∷ (l .next ∷ (l .init ∷ wordsOf t))
+
+-- the records that words hold, three words each; fewer than three words hold none
+abbrev recordsIn : List ℕ → List Latch
+recordsIn [] = []
+recordsIn (a ∷ []) = []
+recordsIn (a ∷ (b ∷ [])) = []
+recordsIn (a ∷ (b ∷ (c ∷ words))) = record { input = a; next = b; init = c } ∷ recordsIn words
+
+records-in-words : (t : List Latch) → recordsIn (wordsOf t) ≡ t
+records-in-words [] = refl
+records-in-words (l ∷ t) = ap (λ (z : List Latch). l ∷ z) (records-in-words t)
+
+-- two tables with the same words are the same
+pub same-table : (t u : List Latch) → wordsOf t ≡ wordsOf u → t ≡ u
+same-table t u e = sym (records-in-words t) ∙ (ap recordsIn e ∙ records-in-words u)
 
 -- all of n records, where so many latches are lent in words, else none
 unfoldable pub copied : ℕ → ℕ → ℕ

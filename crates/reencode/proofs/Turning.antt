@@ -15,17 +15,7 @@ use Rattle.rows.proofs.Laws.{gate-below}
 use Rattle.gates.specs.declared.Grown.{Grown}
 use Rattle.gates.specs.Gates.{State, stateOf, rowAdded, addGate}
 use Rattle.renumber.specs.Renumber.{renamed, Known, MappedEdge}
-use Rattle.graph.specs.Count.{countBelow}
-use Rattle.graph.proofs.Counting.{count-more}
 use Rattle.reencode.specs.Rebuilding.{leavesAdded, gateAdded}
-
--- ---- counting
-module _ (p : ℕ → Bool) (i : ℕ) {n after : ℕ} {t : Bool} (e : n ≡ countBelow p i) (q : t ≡ p i) where
-  pub count-taken : t ≡ true → after ≡ n + 1 → after ≡ countBelow p (i + 1)
-  count-taken h w = let g : p i ≡ true = sym q ∙ h in w ∙ (ap (λ (k : ℕ). k + 1) e ∙ sym (count-more p i ∙ rw g))
-
-  pub count-left : t ≡ false → after ≡ n → after ≡ countBelow p (i + 1)
-  count-left h w = let g : p i ≡ false = sym q ∙ h in w ∙ (e ∙ sym (count-more p i ∙ rw g))
 
 -- ---- leaves
 pub leaves-turn : (out : List ℕ) (i : ℕ) {now after : List ℕ} → now ≡ leavesAdded out i → after ≡ rowAdded now (i + 1) none 0 → after ≡ leavesAdded out (i + 1)

@@ -27,7 +27,7 @@ pub fn renamed_edge(e: u32, map: &[u32]) -> u32
 }
 
 // The same, where the word may be none, which stays.
-pub fn renamed(e: u32, map: &[u32]) -> u32
+fn renamed(e: u32, map: &[u32]) -> u32
     requires { ⌜ Mapped (now map) e ⌝ }
     ensures { λ r. ⌜ r ≡ renamedBy (by (now (map .entry))) e ⌝ }
 {
@@ -37,8 +37,8 @@ pub fn renamed(e: u32, map: &[u32]) -> u32
     renamed_edge(e, map)
 }
 
-// Writes n edges from place `at` on. A leaf's row is such a pair of words too: none and 0 stay.
-pub fn write_edges(out: &mut [u32], at: usize, list: &[u32], n: usize, map: &[u32])
+// Writes n edges from place `at` on.
+fn write_edges(out: &mut [u32], at: usize, list: &[u32], n: usize, map: &[u32])
     requires { ⌜ EdgesReady (now map) (now out) at (now list) n ⌝ }
     ensures { λ _. ⌜ now (out .exit) ≡ written (now (out .entry)) at (edgesOf (by (now (map .entry))) (now (list .entry))) n ⌝ }
 {

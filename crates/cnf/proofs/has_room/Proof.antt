@@ -6,7 +6,7 @@ use mathlib.Core.Path.{refl, ap}
 use mathlib.Core.List.{List}
 use lib.Dec.{leb}
 use Rattle.roots.specs.Roots.{rootsIn}
-use Rattle.cnf.proofs.Calling.{room-for-most}
+use Rattle.cnf.proofs.Calling.{room-for-most, room-for-gates, gates-few}
 use borrow.Author.Needs.{needs}
 use Rattle.cnf.proofs.has_room.Statement.{statement}
 use Rattle.cnf.proofs.has_room.Tie as tie
@@ -27,17 +27,30 @@ returns : tie.Need-returns
 unfolding roots
 returns c = let s = c .before .before .before .before .before .before .before .before .before in let a = s .args in (room-for-most (a .shortcuts) (a .rows .now) (roots s) (a .marks .now) (a .room) (s .pre .1) (c .if1 .taken), refl)
 
+gates-below-requires : tie.Need-gates-below-requires
+gates-below-requires c κs = c .before .before .before .before .before .before .before .before .before .pre .1 .rows-there
+
+mul-if2 : tie.Need-mul-if2
+mul-if2 c = let s = c .before .before .before .before .before .before .before .before .before .before in omega (arith, gates-few (s .args .rows .now) (c .gates-below .ensures) (s .pre .1 .rows-few))
+
+add-if2 : tie.Need-add-if2
+add-if2 c = let s = c .before .before .before .before .before .before .before .before .before .before in omega (arith, gates-few (s .args .rows .now) (c .gates-below .ensures) (s .pre .1 .rows-few))
+
+returns-2 : tie.Need-returns-2
+unfolding roots
+returns-2 c = let s = c .before .before .before .before .before .before .before .before .before .before .before in let a = s .args in (room-for-gates (a .shortcuts) (a .rows .now) (roots s) (a .marks .now) (a .room) (c .before .gates-below .ensures) (c .if2 .taken), refl)
+
 slice-aggregate-put-words : tie.Need-slice-aggregate-put-words
 slice-aggregate-put-words c = search needs
 
 put-words-requires : tie.Need-put-words-requires
-put-words-requires c κs = c .before .before .before .before .before .before .before .before .before .before .before .pre
+put-words-requires c κs = c .before .before .before .before .before .before .before .before .before .before .before .before .before .pre
 
 same-length : tie.Need-same-length
 same-length c = search needs
 
-returns-2 : tie.Need-returns-2
-returns-2 c = (ap (λ (n : ℕ). leb n (c .before .before .before .before .before .before .before .before .before .before .before .before .before .before .before .args .room)) (c .before .before .before .put-words .ensures .0), c .before .before .before .put-words .ensures .1 .1)
+returns-3 : tie.Need-returns-3
+returns-3 c = (ap (λ (n : ℕ). leb n (c .before .before .before .before .before .before .before .before .before .before .before .before .before .before .before .before .before .args .room)) (c .before .before .before .put-words .ensures .0), c .before .before .before .put-words .ensures .1 .1)
 
 pub has-room-spec : {M : Type 1} → statement M
 has-room-spec =
@@ -47,7 +60,11 @@ has-room-spec =
     mul-most
     add-most
     returns
+    gates-below-requires
+    mul-if2
+    add-if2
+    returns-2
     slice-aggregate-put-words
     put-words-requires
     same-length
-    returns-2)
+    returns-3)

@@ -7,7 +7,7 @@ use mathlib.Core.Logic.{⊎-elim}
 use Rattle.renumber.specs.Renumber.{idsOf, by}
 use Rattle.keep.specs.Keeping.{wordPut, numbered, keptInput}
 use Rattle.keep.proofs.Copying.{Keeping, keep-start, keep-taken, keep-left, keep-room, keep-end, word-put-length}
-use Rattle.keep.proofs.Numbering.{count-small}
+use Rattle.graph.proofs.Counting.{count-small}
 use borrow.Author.Needs.{needs}
 use Rattle.keep.proofs.copies.write_inputs.Statement.{statement}
 use Rattle.keep.proofs.copies.write_inputs.Tie as tie

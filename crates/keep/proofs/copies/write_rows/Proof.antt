@@ -8,7 +8,7 @@ use Rattle.renumber.specs.Renumber.{by}
 use Rattle.keep.specs.Keeping.{wordPut, numbered}
 use Rattle.keep.specs.Copying.{rowPut}
 use Rattle.keep.proofs.Copying.{Keeping, keep-start, keep-taken, keep-left, keep-room, keep-end, word-put-length, row-put-length}
-use Rattle.keep.proofs.Numbering.{count-small}
+use Rattle.graph.proofs.Counting.{count-small}
 use borrow.Author.Needs.{needs}
 use Rattle.keep.proofs.copies.write_rows.Statement.{statement}
 use Rattle.keep.proofs.copies.write_rows.Tie as tie

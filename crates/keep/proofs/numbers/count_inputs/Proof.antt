@@ -7,7 +7,7 @@ use mathlib.Core.Path.{_≡_, refl, sym, _∙_}
 use mathlib.Core.Logic.{⊎-elim}
 use Rattle.graph.specs.Count.{countBelow}
 use Rattle.keep.specs.Keeping.{numbered, keptInput}
-use Rattle.keep.proofs.Numbering.{count-taken, count-left, count-small}
+use Rattle.graph.proofs.Counting.{count-taken, count-left, count-small}
 use borrow.Author.Needs.{needs}
 use Rattle.keep.proofs.numbers.count_inputs.Statement.{statement}
 use Rattle.keep.proofs.numbers.count_inputs.Tie as tie

@@ -1,6 +1,7 @@
 -- `keep::numbers::number` meets its contract.
 -- Assumes nothing.
-use Rattle.keep.proofs.Numbering.{Numbering, number-start, number-taken, number-left, count-small}
+use Rattle.graph.proofs.Counting.{count-small}
+use Rattle.keep.proofs.Numbering.{Numbering, number-start, number-taken, number-left}
 use Prim.Native.Nat.{_-_, _≤_}
 use native.Mathlib.Omega.{arith}
 use native.Mathlib.Nat.{le-antisymm}

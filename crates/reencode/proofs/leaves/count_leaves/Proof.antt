@@ -3,13 +3,12 @@
 use Prim.Native.Nat.{_-_, _≤_}
 use native.Mathlib.Omega.{arith}
 use native.Mathlib.Nat.{le-antisymm}
-use mathlib.Core.Path.{_≡_, refl, sym}
+use mathlib.Core.Path.{_≡_, refl}
 use mathlib.Core.Logic.{⊎-elim}
 use Rattle.rows.specs.Rows.{leafAt}
 use Rattle.graph.specs.Count.{countBelow}
-use Rattle.reencode.proofs.Turning.{count-taken, count-left}
 use Rattle.reencode.proofs.Leaving.{none-leaf, else-no-leaf}
-use Rattle.graph.proofs.Counting.{count-within}
+use Rattle.graph.proofs.Counting.{count-within, count-taken, count-left}
 use borrow.Author.Needs.{needs}
 use Rattle.reencode.proofs.leaves.count_leaves.Statement.{statement}
 use Rattle.reencode.proofs.leaves.count_leaves.Tie as tie
@@ -48,7 +47,7 @@ loop-again c =
     let p = c .before .before .before .before .pre in
     let l = c .before .before .before .loop in
     let leaf = leafAt (a .rows .now) in
-    (search needs, ⊎-elim (λ w. count-taken leaf (l .i) (l .inv .1) (sym (none-leaf (a .rows .now) (a .used) (l .i) (p .1 .0) (p .1 .1) (c .before .before .loop-test .taken) (w .0 .taken))) refl (w .1)) (λ w. count-left leaf (l .i) (l .inv .1) (sym (else-no-leaf (a .rows .now) (l .i) (w .0 .left))) refl (w .1)) (c .if1 .came))
+    (search needs, ⊎-elim (λ w. count-taken leaf (l .i) (l .inv .1) (none-leaf (a .rows .now) (a .used) (l .i) (p .1 .0) (p .1 .1) (c .before .before .loop-test .taken) (w .0 .taken)) (w .1)) (λ w. count-left leaf (l .i) (l .inv .1) (else-no-leaf (a .rows .now) (l .i) (w .0 .left)) (w .1)) (c .if1 .came))
 
 returns : tie.Need-returns Inv-loop μ-loop
 returns c = rw (le-antisymm (c .before .loop .inv .0) (c .loop-test .left)) at (c .before .loop .inv .1)
