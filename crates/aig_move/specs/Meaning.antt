@@ -76,5 +76,5 @@ pub record MoveRight (g out : Lent) (marks : List ℕ) : Type 0 where
   pub answers : Answers (limits out) true (hasRoom out (countsOf g)) g marks (moveCall g out marks .given) (moveCall g out marks .marks)
   pub moves : moveCall g out marks .given .number ≡ 0 → Moved g (moveCall g out marks .graph)
   pub refused : (moveCall g out marks .given .number ≡ 0 → ⊥) → moveCall g out marks .graph ≡ out
-  -- "none of their words are written": the room's constraints stay
+  -- "then clears constraints": the copy has none, and the words of the room's constraints stay
   pub constraints-stay : moveCall g out marks .graph .constraints ≡ out .constraints

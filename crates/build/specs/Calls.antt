@@ -11,7 +11,7 @@ use Rattle.graph.specs.declared.Counts.{Counts}
 use Rattle.build.specs.declared.calls.Built.{Built}
 use Rattle.build.specs.declared.calls.Added.{Added}
 
--- ---- the answer: "1, then 4 for an edge or a given id that is not used, then 5"
+-- ---- the answer: "1, then 4 for an edge or a given id that is not used .., then 5"
 unfoldable pub answerOf : Bool → Bool → Bool → Given
 answerOf sizes good room = cond sizes (cond good (cond room done noRoom) badArgument) badSizes
 

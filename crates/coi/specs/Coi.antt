@@ -1,4 +1,4 @@
--- The cone of influence: "always has row 0, starts from row ids, crosses a latch from input to next, and doesn't follow init".
+-- The cone of influence: "always has row 0, starts from row ids .., crosses a latch from input to next, and doesn't follow init".
 -- Assumes nothing.
 use Prim.Native.Nat.{ℕ, zero, suc, _-_}
 use mathlib.Core.List.{List, [], _∷_}

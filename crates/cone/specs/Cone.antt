@@ -1,4 +1,4 @@
--- The cone: "flags of the edges' rows and all fanins below".
+-- The cone: "flags of the edges' rows .. and all fanins below".
 -- Assumes nothing.
 use Prim.Native.Nat.{ℕ, zero, suc}
 use mathlib.Core.List.{List}

@@ -25,7 +25,7 @@ pub record Below (rows roots : List ℕ) (j : ℕ) : Type 0 where
 
 pub record IsCone (rows : List ℕ) (used : ℕ) (roots flags : List ℕ) : Type 0 where
   pub one-each : Flags used flags
-  -- "flags of the edges' rows and all fanins below", and no others: no latch is crossed, and row 0 is flagged "only when reached"
+  -- "flags of the edges' rows .. and all fanins below", and no others: no latch is crossed, and row 0 is flagged "only when reached"
   pub reached : (j : ℕ) → Below rows roots j → Flagged flags j
   pub only : (j : ℕ) → Flagged flags j → Below rows roots j
   pub closed : Closed rows flags

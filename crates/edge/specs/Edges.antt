@@ -35,7 +35,7 @@ complement e = edgeOf (idOf e) (not (isComplemented e))
 abbrev pub complementIf : Bool → ℕ → ℕ
 complementIf flip e = cond flip (complement e) e
 
--- ---- constants: "0 is false and 1 is true", "constant(true) is id 0 complemented"
+-- ---- constants: "0 is false and 1 is true", "`AigEdge::constant(true)` is id 0 complemented"
 abbrev pub constantOf : Bool → ℕ
 constantOf polarity = edgeOf 0 polarity
 

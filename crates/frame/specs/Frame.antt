@@ -32,7 +32,7 @@ gatePlaced t s i = frame (t .rows) (t .used) (s .inputs) (s .listed) (set (s .ma
 abbrev pub leafPlaced : Frame → ℕ → Frame
 leafPlaced s i = frame (leafAdded (s .rows) (s .used)) (s .used + 1) (set (s .inputs) (s .listed) (s .used)) (s .listed + 1) (set (s .map) i (2 * s .used))
 
--- "leaves that are no latch get a new input (orphans too), gates are rebuilt with folding": a row that is mapped already stays so
+-- "leaves that are no latch get a new input (orphans too), gates are rebuilt with folding": a leaf that is mapped already, a latch's, stays so
 unfoldable pub frameRow : List ℕ → ℕ → Frame → Frame
 frameRow from i s =
     cond (gateAt from i)

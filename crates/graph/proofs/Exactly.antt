@@ -21,7 +21,8 @@ use Rattle.graph.specs.Stages.Names.{here, later}
 use Rattle.graph.specs.Check.{CheckSeen, cleared, stages, checkCall}
 use Rattle.graph.specs.WellFormed.{WellFormed}
 use Rattle.graph.specs.Exactly.{Exactly, all-right, wrong-sizes, faulty, wrong-argument, full, Answered, Answers, FaultOfTwo, AnswersTwo}
-use Rattle.graph.specs.Pair.{larger, sizesOfTwo, SizedTwo, checkTwoCall}
+use Rattle.rows.specs.Rows.{larger}
+use Rattle.graph.specs.Pair.{sizesOfTwo, SizedTwo, checkTwoCall}
 use Rattle.graph.proofs.Checked.{sized}
 use Rattle.graph.proofs.WellFormed.{sizes-true, all-clean, row-or-entry, exact}
 use Rattle.graph.proofs.Pairing.{sized-two, exact-two}

@@ -18,7 +18,8 @@ use Rattle.edge.proofs.Answers.{stops-here, goes-past, none-of-two}
 use Rattle.graph.specs.Graph.{Lent, sizesRight, Sized}
 use Rattle.graph.specs.Check.{contents, cleared, CheckSeen, checkSeen, checkCall}
 use Rattle.graph.specs.WellFormed.{WellFormed}
-use Rattle.graph.specs.Pair.{larger, sizesOfTwo, checkTwoCall, SizedTwo, ExactTwo}
+use Rattle.rows.specs.Rows.{larger}
+use Rattle.graph.specs.Pair.{sizesOfTwo, checkTwoCall, SizedTwo, ExactTwo}
 use Rattle.graph.proofs.Checked.{sized}
 use Rattle.graph.proofs.WellFormed.{sizes-true, exact}
 

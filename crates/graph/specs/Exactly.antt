@@ -12,7 +12,8 @@ use Rattle.graph.specs.Graph.{Lent, Sized}
 use Rattle.graph.specs.Stages.{Names}
 use Rattle.graph.specs.Check.{stages, cleared}
 use Rattle.graph.specs.WellFormed.{WellFormed}
-use Rattle.graph.specs.Pair.{larger, SizedTwo}
+use Rattle.rows.specs.Rows.{larger}
+use Rattle.graph.specs.Pair.{SizedTwo}
 
 -- what is lent has right sizes, and is well-formed; `fault p`: p names the first fault; `good`: no argument is wrong; `room`: there is room for what the call would write.
 -- "Checks run in this order": each case says that those before it do not hold

@@ -5,22 +5,18 @@ use mathlib.Core.Path.{_≡_, ap}
 use mathlib.Core.List.{List}
 use mathlib.Core.Bool.{Bool, cond, _&&_}
 use lib.ListN.{length}
-use lib.Dec.{leb}
 use Rattle.edge.specs.declared.answer.Answer.{Answer}
 use Rattle.edge.specs.Answers.{done, badSizes, orElse, told-injective, determined}
+use Rattle.rows.specs.Rows.{larger}
 use Rattle.graph.specs.Graph.{Lent, sizesRight, Sized}
 use Rattle.graph.specs.Check.{contents, cleared, CheckSeen, checkSeen, checkCall}
 use Rattle.graph.specs.WellFormed.{WellFormed}
-
--- "of two graphs, the larger number"
-unfoldable pub larger : ℕ → ℕ → ℕ
-larger m n = cond (leb m n) n m
 
 -- no answer 1 for either: the marks cover the larger used number where they cover both
 abbrev pub sizesOfTwo : Lent → Lent → ℕ → Bool
 sizesOfTwo a b marks = sizesRight a marks && sizesRight b marks
 
--- 1, where the marks are untouched; then 2 and 3 of the first, then of the second
+-- 1, where the marks are untouched; then 2 and 3 of the first, then of the second. They are cleared over the used rows, "of two graphs, the larger number"
 unfoldable pub checkTwoCall : Lent → Lent → List ℕ → CheckSeen
 checkTwoCall a b marks =
     cond (sizesOfTwo a b (length marks))

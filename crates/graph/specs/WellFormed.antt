@@ -20,9 +20,13 @@ use Rattle.graph.specs.Check.{stages, cleared, checkCall}
 abbrev pub UsedLeaf : Lent → ℕ → Type 0
 UsedLeaf g x = (x < g .counts .rows) × (leafAt (g .rows) x ≡ true)
 
+-- n inputs, then the inputs of m latches
+abbrev pub leafList : List ℕ → ℕ → List ℕ → ℕ → List ℕ
+leafList inputs n latches m = take n inputs ++ latchInputs latches m
+
 -- the ids that inputs and latches list, "together"
 abbrev pub listed : Lent → List ℕ
-listed g = take (g .counts .inputs) (g .inputs) ++ latchInputs (g .latches) (g .counts .latches)
+listed g = leafList (g .inputs) (g .counts .inputs) (g .latches) (g .counts .latches)
 
 -- "every edge has id below the used count"
 abbrev pub UsedEdges : Lent → List ℕ → ℕ → Type 0

@@ -3,7 +3,6 @@
 use Prim.Native.Nat.{ℕ, zero, suc, _*_}
 use mathlib.Core.List.{List, [], _∷_, _++_, map}
 use mathlib.Core.Bool.{cond, _||_}
-use lib.ListN.{take}
 use lib.Dec.{eqb}
 use Rattle.edge.specs.Edges.{idOf}
 use Rattle.rows.specs.Rows.{none}
@@ -11,7 +10,7 @@ use Rattle.graph.specs.declared.Counts.{Counts}
 use Rattle.graph.specs.declared.latch.Latch.{Latch}
 use Rattle.graph.specs.Latches.{latchAt, latchInputs}
 use Rattle.graph.specs.Graph.{Lent}
-use Rattle.roots.specs.Roots.{rootsIn}
+use Rattle.roots.specs.Roots.{listRootsIn, rootsIn}
 use Rattle.cone.specs.Cone.{coneOf}
 use Rattle.coi.specs.Coi.{coiOf}
 
@@ -25,12 +24,7 @@ initRoots latches (suc n) = initRoots latches n ++ initRoot (latchAt latches n)
 
 -- "the five root lists"
 abbrev pub listRoots : Lent → List ℕ
-listRoots g =
-    take (g .counts .constraints) (g .constraints)
-    ++ (take (g .counts .bads) (g .bads)
-    ++ (take (g .counts .outputs) (g .outputs)
-    ++ (take (g .counts .edges) (g .edges)
-    ++ take (g .counts .fairness) (g .fairness))))
+listRoots g = listRootsIn (g .constraints) (g .bads) (g .outputs) (g .edges) (g .fairness) (g .counts)
 
 -- "`coi_refine` roots are the five root lists, every latch input and every non-constant init": their rows
 unfoldable pub refineRoots : Lent → List ℕ

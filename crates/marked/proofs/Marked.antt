@@ -4,14 +4,14 @@ use mathlib.Core.Path.{refl}
 use Rattle.edge.specs.Answers.{orElse}
 use Rattle.edge.specs.Edges.{complement}
 use Rattle.rows.specs.Sizes.{fits, rowsFit}
-use Rattle.rows.specs.Rows.{isFalseRow, isLeaf, isGate, isRow}
+use Rattle.rows.specs.Rows.{isFalseRow, isLeaf, isGate, isRow, larger}
 use Rattle.graph.specs.Search.{firstBad}
 use Rattle.graph.specs.Stages.{firstFault}
 use Rattle.graph.specs.Latches.{latchInputs, latchSet}
 use Rattle.graph.specs.Leaves.{member, freeLeaf, latchEdges}
 use Rattle.graph.specs.Graph.{sizesRight}
 use Rattle.graph.specs.Check.{contents, checkCall}
-use Rattle.graph.specs.Pair.{larger, checkTwoCall}
+use Rattle.graph.specs.Pair.{checkTwoCall}
 use Rattle.graph.specs.Count.{countBelow}
 use Rattle.gates.specs.Gates.{rowAdded, first, second, folded, addGate, addAnd, addStep, steps}
 use Rattle.gates.specs.Lists.{allOf, listOf, eqOf}

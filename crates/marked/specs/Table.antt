@@ -31,9 +31,9 @@ built n edge rows = seen done (countWords (usedRows n) ++ (edge ∷ [])) (rows �
 abbrev three : List ℕ → List ℕ
 three words = rowsOf 2 words
 
--- the call on those three, with room for one row, makes this edge and no row
+-- the call on those three, in a table that is full, makes this edge and no row
 abbrev noRow : ℕ → (List ℕ → Counts → ℕ → ℕ → Call) → ℕ → ℕ → ℕ → Case
-noRow mark call a b edge = case mark (call (three (sevens 2)) (usedRows 3) a b) (built 3 edge (three (sevens 2)))
+noRow mark call a b edge = case mark (call (three []) (usedRows 3) a b) (built 3 edge (three []))
 
 -- ---- clauses: so many words, the whole buffer, and the marks of so many rows
 abbrev wrote : ℕ → List ℕ → ℕ → Seen

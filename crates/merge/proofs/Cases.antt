@@ -5,7 +5,7 @@ use mathlib.Core.Path.{_≡_, refl}
 use mathlib.Core.List.{[], _∷_}
 use Rattle.edge.specs.Answers.{done, noRoom, orElse}
 use Rattle.rows.specs.Sizes.{fits, rowsFit}
-use Rattle.rows.specs.Rows.{none, falseWord, isFalseRow, isLeaf, isGate, isRow}
+use Rattle.rows.specs.Rows.{none, falseWord, isFalseRow, isLeaf, isGate, isRow, larger}
 use Rattle.graph.specs.declared.Counts.{Counts}
 use Rattle.graph.specs.Search.{firstBad}
 use Rattle.graph.specs.Stages.{firstFault}
@@ -14,7 +14,7 @@ use Rattle.graph.specs.Leaves.{member, freeLeaf, latchEdges}
 use Rattle.graph.specs.Justice.{endIs, setOf}
 use Rattle.graph.specs.Graph.{Lent, lent, sizesRight}
 use Rattle.graph.specs.Check.{contents}
-use Rattle.graph.specs.Pair.{larger, checkTwoCall}
+use Rattle.graph.specs.Pair.{checkTwoCall}
 use Rattle.renumber.specs.Writing.{written}
 use Rattle.renumber.specs.Renumber.{renamed, renamedLatch, latchesWritten, renumber}
 use Rattle.renumber.specs.Room.{roomOf}

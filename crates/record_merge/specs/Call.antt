@@ -1,17 +1,17 @@
 -- Merging for callers whose latches are records.
 -- Assumes nothing.
 use Prim.Native.Nat.{ℕ}
-use mathlib.Core.Path.{_≡_, refl}
+use mathlib.Core.Path.{_≡_}
 use mathlib.Core.List.{List}
 use Rattle.edge.specs.Answers.{badSizes}
 use Rattle.graph.specs.declared.Counts.{Counts}
 use Rattle.graph.specs.declared.latch.Latch.{Latch}
 use Rattle.graph.specs.Graph.{Lent, lent}
 use Rattle.renumber.specs.declared.Rebuilt.{Rebuilt}
-use Rattle.renumber.specs.Seen.{RebuiltSeen, rebuiltSeen, SameRebuilt, rebuilt-determined}
+use Rattle.renumber.specs.Seen.{RebuiltSeen, rebuiltSeen, SameRebuilt}
 use Rattle.merge.specs.Call.{mergeCall}
-use Rattle.records.specs.Held.{held, held-same}
-use Rattle.records.specs.Pairing.{pairSeen, onBothRecords, pair-determined}
+use Rattle.records.specs.Held.{held, rebuilt-pair-determined}
+use Rattle.records.specs.Pairing.{pairSeen, onBothRecords}
 
 -- the flat call, with the latches' words of both graphs last
 abbrev pub mergeWith : List ℕ → List ℕ → List ℕ → List ℕ → List ℕ → List ℕ → List ℕ → List ℕ → Counts → List ℕ → List ℕ → List ℕ → List ℕ → List ℕ → List ℕ → List ℕ → List ℕ → Counts → List ℕ → List ℕ → List ℕ → RebuiltSeen
@@ -26,7 +26,4 @@ mergeRefused rows inputs constraints bads outputs ends edges fairness counts mar
 pub merge-determined : (t : List Latch) (words : List ℕ) (t2 : List Latch) (words2 : List ℕ) (call : List ℕ → List ℕ → RebuiltSeen) (refused : List ℕ → RebuiltSeen) (r s : Rebuilt) (g h : Lent) (u v : List Latch) (m n x y x2 y2 : List ℕ)
     → pairSeen (rebuiltSeen r (held g u) m) x x2 ≡ onBothRecords t words t2 words2 call refused → pairSeen (rebuiltSeen s (held h v) n) y y2 ≡ onBothRecords t words t2 words2 call refused
     → SameRebuilt r (held g u) m s (held h v) n × (u ≡ v) × (x ≡ y) × (x2 ≡ y2)
-merge-determined t words t2 words2 call refused r s g h u v m n x y x2 y2 p q =
-    let e = pair-determined t words t2 words2 call refused (rebuiltSeen r (held g u) m) (rebuiltSeen s (held h v) n) x y x2 y2 p q in
-    let d = rebuilt-determined (λ (z : RebuiltSeen). z) (rebuiltSeen s (held h v) n) r s (held g u) (held h v) m n (e .0) refl in
-    (d, held-same g h u v (d .1), e .1, e .2)
+merge-determined = rebuilt-pair-determined

@@ -1,5 +1,4 @@
 pub mod Moving
 pub mod Numbering
 pub mod Refining
-pub mod Same
 pub mod Unrolling

@@ -10,9 +10,8 @@ use Rattle.graph.specs.Graph.{Lent, lent}
 use Rattle.renumber.specs.declared.Rebuilt.{Rebuilt}
 use Rattle.renumber.specs.Seen.{RebuiltSeen, rebuiltSeen, SameRebuilt}
 use Rattle.reencode.specs.Call.{reencodeCall}
-use Rattle.records.specs.Held.{held}
+use Rattle.records.specs.Held.{held, rebuilt-pair-determined}
 use Rattle.records.specs.Pairing.{pairSeen, onBothRecords}
-use Rattle.record_output.specs.Same.{rebuilt-pair-determined}
 
 -- the flat call, with the latches' words last: those of the output, which it writes, then those of the given graph
 abbrev pub reencodeWith : List ℕ → List ℕ → List ℕ → List ℕ → List ℕ → List ℕ → List ℕ → List ℕ → Counts → List ℕ → List ℕ → List ℕ → List ℕ → List ℕ → List ℕ → List ℕ → List ℕ → List ℕ → List ℕ → List ℕ → RebuiltSeen

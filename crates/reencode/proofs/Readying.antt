@@ -10,7 +10,7 @@ use Rattle.graph.specs.declared.Counts.{Counts}
 use Rattle.graph.specs.Latches.{latchAt}
 use Rattle.graph.specs.Graph.{Lent, lent, Sized, noCounts}
 use Rattle.graph.specs.Check.{cleared}
-use Rattle.graph.specs.WellFormed.{WellFormed}
+use Rattle.graph.specs.WellFormed.{WellFormed, leafList}
 use Rattle.graph.proofs.Listed.{all-long, input-at, latch-at}
 use Rattle.renumber.specs.Writing.{written}
 use Rattle.renumber.specs.Renumber.{idsOf, Lists, lists, listsOf, renumber, graphOf, by, IdsReady, ListsReady}
@@ -19,7 +19,7 @@ use Rattle.renumber.proofs.Writing.{written-same}
 use Rattle.renumber.proofs.Mapping.{lists-used, renumber-by, known, lists-ready}
 use Rattle.renumber.proofs.Fitting.{lists-room}
 use Rattle.graph.specs.Count.{gatesBelow}
-use Rattle.reencode.specs.Numbers.{placeIn, leafList, firstGate, numbered, numberOf, newId, placed}
+use Rattle.reencode.specs.Numbers.{placeIn, firstGate, numbered, numberOf, newId, placed}
 use Rattle.reencode.specs.Rebuilding.{leavesAdded, gatesAdded, rowsOf, reencoded}
 use Rattle.reencode.specs.Ready.{IdsMarked, GatesReady, RowsReady, Ready}
 use Rattle.reencode.proofs.Placing.{placed-length, placed-same, placed-split, placed-beyond, place-bound, places-hold}

@@ -1,16 +1,15 @@
 -- The new numbers: "`reencode` numbers inputs, latches, then gates in row order".
 -- Assumes nothing.
 use Prim.Native.Nat.{ℕ, zero, suc, _+_}
-use mathlib.Core.List.{List, [], _∷_, _++_}
+use mathlib.Core.List.{List, [], _∷_}
 use mathlib.Core.Bool.{Bool, cond, not, _&&_}
-use lib.ListN.{set, take}
+use lib.ListN.{set}
 use lib.Dec.{eqb}
 use Rattle.rows.specs.Rows.{leafAt, gateAt}
 use Rattle.graph.specs.declared.Counts.{Counts}
-use Rattle.graph.specs.Latches.{latchInputs}
 use Rattle.graph.specs.Leaves.{member}
 use Rattle.graph.specs.Graph.{Lent}
-use Rattle.graph.specs.WellFormed.{listed}
+use Rattle.graph.specs.WellFormed.{leafList, listed}
 use Rattle.graph.specs.Count.{countBelow, gatesBelow}
 
 -- the number of x, where the entries of a list are numbered from k on; 0 where it is no entry
@@ -21,10 +20,6 @@ placeFrom k (y ∷ ys) x = cond (eqb x y) k (placeFrom (k + 1) ys x)
 -- row 0 comes first, so the leaves are numbered from 1 on
 abbrev pub placeIn : List ℕ → ℕ → ℕ
 placeIn list x = placeFrom 1 list x
-
--- n inputs, then the inputs of m latches
-abbrev pub leafList : List ℕ → ℕ → List ℕ → ℕ → List ℕ
-leafList inputs n latches m = take n inputs ++ latchInputs latches m
 
 -- the first gate's number: after row 0, the inputs and the latches
 abbrev pub firstGate : Counts → ℕ

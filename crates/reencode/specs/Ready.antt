@@ -8,12 +8,12 @@ use Rattle.rows.specs.Sizes.{maxRows}
 use Rattle.graph.specs.declared.Counts.{Counts}
 use Rattle.graph.specs.Latches.{latchWords}
 use Rattle.graph.specs.Graph.{Lent, Sized}
-use Rattle.graph.specs.WellFormed.{WellFormed}
+use Rattle.graph.specs.WellFormed.{WellFormed, leafList}
 use Rattle.renumber.specs.Renumber.{Known, by}
 use Rattle.renumber.specs.Map.{Holds, Small}
 use Rattle.renumber.specs.Room.{Room}
 use Rattle.graph.specs.Count.{gatesBelow}
-use Rattle.reencode.specs.Numbers.{leafList, firstGate, numbered, orphans}
+use Rattle.reencode.specs.Numbers.{firstGate, numbered, orphans}
 
 -- rows id 0 .. id (n - 1) have marks, and the numbers from k on are words
 pub record IdsMarked (marks : List ℕ) (id : ℕ → ℕ) (k n : ℕ) : Type 0 where

@@ -77,7 +77,7 @@ fn asked(
     )
 }
 
-// Answers 1 to 5, where so many words are lent for the new-to-old list. Where no answer is left, the counts are those of the result, and the marks of the used rows hold their
+// Answers 1, 2, 3 or 5, where so many words are lent for the new-to-old list. Where no answer is left, the counts are those of the result, and the marks of the used rows hold their
 // new numbers.
 fn checked(
     rows: &[u32],
@@ -233,7 +233,7 @@ fn write(
     );
 }
 
-// Writes the rows that the five root lists, the latch inputs and the non-constant inits reach, across latches, in order and renumbered, with all latches and lists, into
+// Writes the rows that the five root lists, the latch inputs and the non-constant inits reach, across latches, in order and renumbered, with all latches, the kept inputs and all other lists, into
 // the output's room, and for each new row the old one to `old`. Too little room in either: 5. A refusal changes nothing but the marks.
 pub fn coi_refine(
     rows: &[u32],

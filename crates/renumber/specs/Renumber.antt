@@ -1,5 +1,5 @@
--- A renumbering of rows, `m`, applied to every column of a graph. "They renumber a table and forget a column": here all columns stand in one definition, and every call
--- that renumbers uses it.
+-- A renumbering of rows, `m`, applied to every list of a graph but the inputs: so no call that renumbers can forget a column, as a latch's init, that another has. Rows and inputs,
+-- of which a call may keep some or none, are its own.
 -- Assumes nothing.
 use Prim.Native.Nat.{ℕ, zero, suc, _+_, _*_, _%_, _≤_, _<_}
 use mathlib.Core.Path.{_≡_}
@@ -58,7 +58,7 @@ lists latches constraints bads outputs ends edges fairness =
 abbrev pub listsOf : Lent → Lists
 listsOf g = lists (g .latches) (g .constraints) (g .bads) (g .outputs) (g .ends) (g .edges) (g .fairness)
 
--- every column of `from`, with counts n, under m, written behind the entries of `out` that `at` counts; justice goes by whole sets
+-- every list of `from` but the inputs, with counts n, under m, written behind the entries of `out` that `at` counts; justice goes by whole sets
 unfoldable pub renumber : (ℕ → ℕ) → Lists → Counts → Lists → Counts → Lists
 renumber m out at from n =
     lists

@@ -12,7 +12,7 @@ use graph::latch::latch_at;
 use graph::latch::write_latch;
 use rows::kinds::NONE;
 
-// What a rebuilding call answers, with the counts of the graph that it wrote. On a refusal the counts are as given.
+// What a rebuilding call answers, with the counts of the graph that it wrote. On a refusal the counts are as given, but where the copy of `unroll_to` does not fit all are 0.
 pub struct Rebuilt {
     pub answer: Answer,
     pub counts: Counts,

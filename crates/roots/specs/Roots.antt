@@ -23,14 +23,17 @@ unfoldable pub latchRoots : List ℕ → ℕ → List ℕ
 latchRoots latches zero = []
 latchRoots latches (suc n) = latchRoots latches n ++ latchRoot (latchAt latches n)
 
-abbrev pub rootsIn : List ℕ → List ℕ → List ℕ → List ℕ → List ℕ → List ℕ → Counts → List ℕ
-rootsIn latches constraints bads outputs edges fairness n =
-    latchRoots latches (n .latches)
-    ++ (take (n .constraints) constraints
+-- "the five root lists"
+abbrev pub listRootsIn : List ℕ → List ℕ → List ℕ → List ℕ → List ℕ → Counts → List ℕ
+listRootsIn constraints bads outputs edges fairness n =
+    take (n .constraints) constraints
     ++ (take (n .bads) bads
     ++ (take (n .outputs) outputs
     ++ (take (n .edges) edges
-    ++ take (n .fairness) fairness))))
+    ++ take (n .fairness) fairness)))
+
+abbrev pub rootsIn : List ℕ → List ℕ → List ℕ → List ℕ → List ℕ → List ℕ → Counts → List ℕ
+rootsIn latches constraints bads outputs edges fairness n = latchRoots latches (n .latches) ++ listRootsIn constraints bads outputs edges fairness n
 
 -- the roots of a graph
 abbrev pub rootsOf : Lent → List ℕ

@@ -7,7 +7,7 @@ use mathlib.Core.List.{List}
 use mathlib.Core.Bool.{Bool, true, false, cond, not, _&&_, _||_}
 use lib.ListN.{length}
 use lib.Dec.{ltb, leb, eqb}
-use borrow.Author.Tests.{lt-ltb, le-ltb, ltb-true, ltb-false, leb-true, eqb-true}
+use borrow.Author.Tests.{lt-ltb, le-ltb, ltb-true, ltb-false, leb-true, leb-false, eqb-true}
 use Rattle.edge.specs.declared.BoolAnswer.{BoolAnswer}
 use Rattle.edge.specs.Answers.{done, badSizes, badArgument, told, orElse}
 use Rattle.edge.specs.Edges.{BoolSeen, boolSeen}
@@ -40,16 +40,17 @@ id-below a i = go (ltb (a / 2) i) refl
 
 -- both words are below k exactly if the larger one is
 pub larger-below : (a b k : ℕ) → ltb (larger a b) k ≡ (ltb a k && ltb b k)
-larger-below a b k = go (ltb a b) refl (ltb a k) refl (ltb b k) refl
+unfolding larger
+larger-below a b k = go (leb a b) refl (ltb a k) refl (ltb b k) refl
   where
-    go : (s : Bool) → ltb a b ≡ s → (t : Bool) → ltb a k ≡ t → (u : Bool) → ltb b k ≡ u → ltb (cond s b a) k ≡ (t && u)
+    go : (s : Bool) → leb a b ≡ s → (t : Bool) → ltb a k ≡ t → (u : Bool) → ltb b k ≡ u → ltb (cond s b a) k ≡ (t && u)
     go true p true q u r = r
     go true p false q true r =
-        let x = ltb-true a b p in let y = ltb-true b k r in let z = ltb-false a k q in absurd (omega arith)
+        let x = leb-true a b p in let y = ltb-true b k r in let z = ltb-false a k q in absurd (omega arith)
     go true p false q false r = r
     go false p true q true r = q
     go false p true q false r =
-        let x = ltb-false a b p in let y = ltb-true a k q in let z = ltb-false b k r in absurd (omega arith)
+        let x = leb-false a b p in let y = ltb-true a k q in let z = ltb-false b k r in absurd (omega arith)
     go false p false q u r = q
 
 pub gate-by-larger : (i a b : ℕ) {w : ℕ} → w ≡ larger a b → isGate i a b ≡ ltb (w / 2) i

@@ -5,7 +5,7 @@ use mathlib.Core.List.{List}
 use mathlib.Core.Bool.{Bool, true, cond, _&&_, _||_}
 use mathlib.Core.Path.{_≡_}
 use lib.ListN.{getD}
-use lib.Dec.{ltb, eqb}
+use lib.Dec.{ltb, leb, eqb}
 
 -- the two words of row i; 0 past the end
 abbrev pub word0 : List ℕ → ℕ → ℕ
@@ -34,8 +34,9 @@ isLeaf i a b = ltb 0 i && eqb a none && eqb b 0
 unfoldable pub isGate : ℕ → ℕ → ℕ → Bool
 isGate i a b = ltb a (2 * i) && ltb b (2 * i)
 
-abbrev pub larger : ℕ → ℕ → ℕ
-larger a b = cond (ltb a b) b a
+-- the larger of two numbers
+unfoldable pub larger : ℕ → ℕ → ℕ
+larger m n = cond (leb m n) n m
 
 -- "Nothing else is a row"
 unfoldable pub isRow : ℕ → ℕ → ℕ → Bool

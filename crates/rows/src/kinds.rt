@@ -33,10 +33,10 @@ pub fn is_gate(i: usize, a: u32, b: u32) -> bool
 fn larger(a: u32, b: u32) -> u32
     ensures { λ r. ⌜ r ≡ larger a b ⌝ }
 {
-    if a < b { b } else { a }
+    if a <= b { b } else { a }
 }
 
-// Are the words a and b a row, at place i? Nearly every row is a gate, so that is asked first, and of the larger word alone: every call asks it of every row.
+// Are the words a and b a row, at place i? Nearly every row is a gate, so that is asked first, and of the larger word alone: every call on a whole graph asks it of every row.
 pub fn is_row(i: usize, a: u32, b: u32) -> bool
     ensures { λ r. ⌜ r ≡ isRow i a b ⌝ }
 {

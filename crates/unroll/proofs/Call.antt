@@ -19,7 +19,8 @@ use Rattle.graph.specs.Latches.{latchWords}
 use Rattle.graph.specs.Graph.{Lent, Sized}
 use Rattle.graph.specs.Check.{cleared, CheckSeen, checkSeen}
 use Rattle.graph.specs.WellFormed.{WellFormed}
-use Rattle.graph.specs.Pair.{larger, checkTwoCall, SizedTwo}
+use Rattle.rows.specs.Rows.{larger}
+use Rattle.graph.specs.Pair.{checkTwoCall, SizedTwo}
 use Rattle.graph.proofs.Pairing.{cleared-fewer, larger-second, exact-two}
 use Rattle.renumber.specs.declared.Rebuilt.{Rebuilt}
 use Rattle.frame.specs.Frame.{framed, frameFits}

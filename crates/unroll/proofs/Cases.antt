@@ -6,7 +6,7 @@ use mathlib.Core.List.{List, [], _∷_}
 use Rattle.edge.specs.Answers.{done, noRoom, orElse}
 use Rattle.edge.specs.Edges.{complement}
 use Rattle.rows.specs.Sizes.{fits, rowsFit}
-use Rattle.rows.specs.Rows.{none, falseWord, isFalseRow, isLeaf, isGate, isRow}
+use Rattle.rows.specs.Rows.{none, falseWord, isFalseRow, isLeaf, isGate, isRow, larger}
 use Rattle.graph.specs.declared.Counts.{Counts}
 use Rattle.graph.specs.Search.{firstBad}
 use Rattle.graph.specs.Stages.{firstFault}
@@ -15,7 +15,7 @@ use Rattle.graph.specs.Leaves.{member, freeLeaf, latchEdges}
 use Rattle.graph.specs.Justice.{endIs, setOf}
 use Rattle.graph.specs.Graph.{Lent, lent, sizesRight}
 use Rattle.graph.specs.Check.{contents}
-use Rattle.graph.specs.Pair.{larger, checkTwoCall}
+use Rattle.graph.specs.Pair.{checkTwoCall}
 use Rattle.gates.specs.Gates.{rowAdded, first, second, folded, addGate, addAnd}
 use Rattle.renumber.specs.Writing.{written}
 use Rattle.renumber.specs.Room.{roomOf}

@@ -31,7 +31,7 @@ pub record UnrollRight (a b : Lent) (marks : List ℕ) : Type 0 where
   -- `unroll` is done exactly where what is lent is right
   pub accepts : UnrollLent a b (length marks) → unrollCall a b marks .given .number ≡ 0
   pub accepted : unrollCall a b marks .given .number ≡ 0 → UnrollLent a b (length marks)
-  -- and then the target has a frame more, with the values that `FrameMeans` says; it can be unrolled again
+  -- and then the target has a frame more, with the values that `FrameMeans` says; a frame more can be added to it, and with marks for its rows it can be unrolled again
   pub added : unrollCall a b marks .given .number ≡ 0 → FrameAdded a b (unrollCall a b marks .graph)
   pub again : unrollCall a b marks .given .number ≡ 0 → FrameReady (unrollCall a b marks .graph) b (length marks)
   -- else the target is as it was
