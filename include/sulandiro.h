@@ -111,7 +111,7 @@ enum sulandiro_code { SULANDIRO_FALSE, SULANDIRO_TRUE, SULANDIRO_UNKNOWN };
     SULANDIRO_OUT(rows2), SULANDIRO_OUT(inputs2), SULANDIRO_OUT(latches2), SULANDIRO_OUT(constraints2), SULANDIRO_OUT(bads2),                        \
         SULANDIRO_OUT(outputs2), SULANDIRO_OUT(ends2), SULANDIRO_OUT(edges2), SULANDIRO_OUT(fairness2)
 
-/* ---- Edges: they see no graph. Archive liblend_edge.a ---- */
+/* ---- Edges: they see no graph. Archive libsulandiro_edge.a ---- */
 
 /* The edge to row id. 4 for an id above 2147483647. Word 4: the edge, 0 where refused. */
 void sulandiro_edge_new(uint32_t id, bool complement, SULANDIRO_TELLS);
@@ -147,7 +147,7 @@ void sulandiro_edge_to_constant(uint32_t e, SULANDIRO_TELLS);
  * refused. */
 void sulandiro_edge_map(uint32_t e, SULANDIRO_IN(map), SULANDIRO_TELLS);
 
-/* ---- One row. The others are not looked at, so there is no 2 or 3. Archive liblend_edge.a ---- */
+/* ---- One row. The others are not looked at, so there is no 2 or 3. Archive libsulandiro_edge.a ---- */
 
 /* Is row id a gate? 1 for the rows and their number `used`, then 4 for an id that is not used. Word 4: 0 or 1, 0 where refused. */
 void sulandiro_is_and(SULANDIRO_IN(rows), size_t used, uint32_t id, SULANDIRO_TELLS);
@@ -164,7 +164,7 @@ void sulandiro_fanin0(SULANDIRO_IN(rows), size_t used, uint32_t id, SULANDIRO_TE
 /* The second of them, in word 4. Refused as sulandiro_fanin. */
 void sulandiro_fanin1(SULANDIRO_IN(rows), size_t used, uint32_t id, SULANDIRO_TELLS);
 
-/* ---- Constructors. Archive liblend_build.a ----
+/* ---- Constructors. Archive libsulandiro_build.a ----
  * They look at the counts and at the edges or ids given, and don't scan rows: 1 for the slices that are lent, 4 for an edge or id that is not used, 5
  * for a row or an entry that does not fit. New rows follow the used ones. Words 4 to 12: the counts afterwards (refused: as given); word 13: the edge
  * or id made, 0 where refused. The counts are read and never written: for the next call copy them out of `told` first, since the two must not
@@ -219,12 +219,12 @@ void sulandiro_new_ors_node(SULANDIRO_OUT(rows), SULANDIRO_COUNTED(counts), SULA
 /* Are a and b equal? Up to three rows, folded; refused whole or done whole. */
 void sulandiro_new_eq_node(SULANDIRO_OUT(rows), SULANDIRO_COUNTED(counts), uint32_t a, uint32_t b, SULANDIRO_TELLS);
 
-/* ---- The check. Archive liblend_check.a ---- */
+/* ---- The check. Archive libsulandiro_read.a ---- */
 
 /* 0 for a well-formed graph, else 1, 2 or 3 with the place of the first fault. Nothing is told but number and place. */
 void sulandiro_check(SULANDIRO_GRAPH_IN, SULANDIRO_COUNTED(counts), SULANDIRO_OUT(marks), SULANDIRO_TELLS);
 
-/* ---- Reading a whole graph: 1, 2 and 3 of the graph first. Archive liblend_read.a ---- */
+/* ---- Reading a whole graph: 1, 2 and 3 of the graph first. Archive libsulandiro_read.a ---- */
 
 /* flags[i] becomes 1 for the rows of the edges `roots` and all fanins below, else 0, for each used row. Latches are not crossed, and row 0 is flagged
  * only when reached. 4 for a root that is not used. Nothing is told but number and place. */
@@ -255,7 +255,7 @@ void sulandiro_value(const uint8_t *values, size_t values_len, size_t used, uint
  * enough. Word 4: how many words were written, 0 where refused. */
 void sulandiro_cnf(SULANDIRO_GRAPH_IN, SULANDIRO_COUNTED(counts), bool shortcuts, SULANDIRO_OUT(clauses), SULANDIRO_OUT(marks), SULANDIRO_TELLS);
 
-/* ---- Rebuilding. Archive liblend_rebuild.a ----
+/* ---- Rebuilding. Archive libsulandiro_rebuild.a ----
  * Words 4 to 12 tell the counts of the graph that is written; refused, the counts of the first graph as given. Where a call writes into a second
  * graph, that is room alone: it has no counts, what it holds is not looked at, and it must be long enough for the result, else 5. */
 
@@ -272,7 +272,7 @@ void sulandiro_reencode(SULANDIRO_GRAPH_IN, SULANDIRO_COUNTED(counts), SULANDIRO
 void sulandiro_coi_refine(SULANDIRO_GRAPH_IN, SULANDIRO_COUNTED(counts), SULANDIRO_GRAPH2_OUT, SULANDIRO_OUT(old), SULANDIRO_OUT(marks),
                           SULANDIRO_TELLS);
 
-/* ---- Unrolling. Archive liblend_unroll.a ---- */
+/* ---- Unrolling. Archive libsulandiro_unroll.a ---- */
 
 /* A frame of the second graph behind the first: latch inputs stand for the first's nexts, every other leaf gets a new input, gates are built anew
  * with folding; then the first's nexts are the frame's, and each root list grows by the frame's entries, justice by whole sets. Init stays. 4 where
@@ -285,7 +285,7 @@ void sulandiro_unroll(SULANDIRO_GRAPH_OUT, SULANDIRO_COUNTED(counts), SULANDIRO_
  * to 4 the counts are those given, and word 13 is 0. Marks are needed for the given graph's rows alone. */
 void sulandiro_unroll_to(SULANDIRO_GRAPH_IN, SULANDIRO_COUNTED(counts), size_t frames, SULANDIRO_GRAPH2_OUT, SULANDIRO_OUT(marks), SULANDIRO_TELLS);
 
-/* ---- Properties: told as sulandiro_merge. Archive liblend_property.a ---- */
+/* ---- Properties: told as sulandiro_merge. Archive libsulandiro_property.a ---- */
 
 /* The graph without constraints, in the second graph, which is room alone: a latch more, init true, whose next is the AND of it and all constraints;
  * the first bad and the first output become their AND with that next. No room is needed for constraints. */

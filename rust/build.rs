@@ -6,8 +6,8 @@ use std::path::PathBuf;
 use std::process::exit;
 
 const FOLDER: &str = "SULANDIRO_ARCHIVES";
-const PARTS: [&str; 7] = [
-    "check", "rebuild", "unroll", "property", "edge", "build", "read",
+const PARTS: [&str; 6] = [
+    "rebuild", "unroll", "property", "edge", "build", "read",
 ];
 
 fn main() {
@@ -16,9 +16,9 @@ fn main() {
     let folder = folder();
     println!("cargo:rustc-link-search=native={}", folder.display());
     for part in PARTS {
-        let archive = folder.join(format!("liblend_{part}.a"));
+        let archive = folder.join(format!("libsulandiro_{part}.a"));
         println!("cargo:rerun-if-changed={}", archive.display());
-        println!("cargo:rustc-link-lib=static=lend_{part}");
+        println!("cargo:rustc-link-lib=static=sulandiro_{part}");
     }
 }
 

@@ -16,10 +16,11 @@ use Rattle.graph.specs.Graph.{Lent, lent, sizesRight}
 use Rattle.graph.specs.Check.{contents, checkCall}
 use Rattle.gates.specs.Gates.{rowAdded, first, second, addGate, folded, addAnd, addStep, steps}
 use Rattle.gates.specs.Lists.{allOf, listOf}
-use Rattle.roots.specs.Arguments.{argsCall}
-use Rattle.renumber.specs.Writing.{written}
-use Rattle.renumber.specs.Room.{limitsOf, roomOf}
-use Rattle.copy.specs.Copying.{copied, copyOf, copyAsked}
+use Rattle.root_marks.specs.Arguments.{argsCall}
+use Rattle.output.specs.Writing.{written}
+use Rattle.output.specs.Room.{limitsIn, fitsIn}
+use Rattle.output.specs.Copying.{copied, copyOf}
+use Rattle.output.specs.Asking.{askedIn}
 use Rattle.aig_move.specs.Making.{nextOf, guardOf, makingOf}
 use Rattle.aig_move.specs.Moving.{countsWith, firstSet, finished, moved}
 use Rattle.aig_move.specs.Call.{moveAnswer, moveCall}
@@ -44,5 +45,7 @@ result = lent (falseWord ∷ 0 ∷ none ∷ 0 ∷ none ∷ 0 ∷ none ∷ 0 ∷ 
 
 -- the answer, the whole graph and the marks; words beyond stay
 pub moved-case : moveCall given room (9 ∷ 9 ∷ 9 ∷ 9 ∷ []) ≡ record { given = done; graph = result; marks = 0 ∷ 0 ∷ 0 ∷ 9 ∷ [] }
-unfolding orElse complement fits rowsFit isFalseRow isLeaf isGate isRow firstBad firstFault latchInputs latchSet member freeLeaf latchEdges endIs setOf sizesRight contents checkCall rowAdded first second addGate folded addAnd addStep steps allOf listOf argsCall written limitsOf roomOf copied copyOf copyAsked nextOf guardOf makingOf countsWith firstSet finished moved moveAnswer moveCall
+unfolding orElse complement fits rowsFit isFalseRow isLeaf isGate isRow firstBad firstFault latchInputs latchSet member freeLeaf latchEdges endIs setOf sizesRight contents checkCall rowAdded
+    first second addGate folded addAnd addStep steps allOf listOf argsCall written limitsIn fitsIn copied copyOf askedIn nextOf guardOf makingOf countsWith firstSet finished moved moveAnswer
+    moveCall
 moved-case = refl

@@ -10,12 +10,14 @@ use Rattle.edge.specs.Edges.{constantOf}
 use Rattle.graph.specs.declared.Counts.{Counts}
 use Rattle.graph.specs.Latches.{latchSet, latch}
 use Rattle.graph.specs.Graph.{Lent, lent, Sized}
-use Rattle.renumber.specs.Room.{Room}
-use Rattle.copy.specs.Copying.{copyOf, CopyFits}
+use Rattle.output.specs.Room.{Room}
+use Rattle.output.specs.Copying.{copyOf}
+use Rattle.output.specs.Steps.{CopyFits}
 use Rattle.aig_move.specs.declared.making.Made.{Made}
-use Rattle.aig_move.specs.Making.{Making, makingSeen, makingIn}
-use Rattle.aig_move.specs.Moving.{copyCounts, countsWith, countsOf, firstSet, finished, moved}
-use Rattle.aig_move.specs.Ready.{MakeReady, FinishReady, Ready}
+use Rattle.aig_move.specs.Making.{Making, makingIn}
+use Rattle.aig_move.specs.Steps.{makingSeen}
+use Rattle.aig_move.specs.Moving.{copyCounts, countsWith, movedCounts, firstSet, finished, moved}
+use Rattle.aig_move.specs.Steps.{MakeReady, FinishReady, MoveReady}
 use Rattle.aig_move.proofs.Steps.{making-more}
 
 -- what `make` needs
@@ -30,7 +32,7 @@ make-ready g marks s =
     }
 
 -- where the result has room, the copy has
-pub copy-room : (g out : Lent) → Room out (countsOf g) → Room out (copyCounts (g .counts))
+pub copy-room : (g out : Lent) → Room out (movedCounts g) → Room out (copyCounts (g .counts))
 unfolding countsWith
 copy-room g out o =
     record {
@@ -49,12 +51,22 @@ copy-room g out o =
 abbrev with : Lent → Counts → Lent
 with g n = lent (g .rows) (g .inputs) (g .latches) (g .constraints) (g .bads) (g .outputs) (g .ends) (g .edges) (g .fairness) n
 
-module _ (g out : Lent) (r : Ready g out) {n : Counts} (e : n ≡ copyCounts (g .counts)) where
+module _ (g out : Lent) (r : MoveReady g out) {n : Counts} (e : n ≡ copyCounts (g .counts)) where
   -- the entries stand in g, and there is room for them
   has : (k : Counts) → Room (with g k) (copyCounts (g .counts))
   has k =
       let s = r .sized in
-      record { rows = s .rows .fit .within; inputs = s .inputs .within; latches = s .latches .within; constraints = omega arith; bads = s .bads .within; outputs = s .outputs .within; ends = s .ends .within; edges = s .edges .within; fairness = s .fairness .within }
+      record {
+        rows = s .rows .fit .within;
+        inputs = s .inputs .within;
+        latches = s .latches .within;
+        constraints = omega arith;
+        bads = s .bads .within;
+        outputs = s .outputs .within;
+        ends = s .ends .within;
+        edges = s .edges .within;
+        fairness = s .fairness .within;
+      }
 
   room : (k : Counts) → Room (with out k) (copyCounts (g .counts))
   room k =
@@ -65,11 +77,17 @@ module _ (g out : Lent) (r : Ready g out) {n : Counts} (e : n ≡ copyCounts (g 
   copy-fits = rw e (record { has = has (copyCounts (g .counts)); room = room (copyCounts (g .counts)) })
 
   -- c is the copy
-  module _ {x1 x2 x3 x4 x5 x6 x7 x8 x9 : List ℕ} (copy : lent x1 x2 x3 x4 x5 x6 x7 x8 x9 n ≡ copyOf n (with g n) (with out n)) (k3 : length x3 ≡ length (out .latches)) (k5 : length x5 ≡ length (out .bads)) (k6 : length x6 ≡ length (out .outputs)) where
+  module _ {x1 x2 x3 x4 x5 x6 x7 x8 x9 : List ℕ} (copy : lent x1 x2 x3 x4 x5 x6 x7 x8 x9 n ≡ copyOf n (with g n) (with out n)) (k3 : length x3 ≡ length (out .latches))
+      (k5 : length x5 ≡ length (out .bads)) (k6 : length x6 ≡ length (out .outputs)) where
     pub finish-ready : FinishReady (g .constraints) (g .bads) (g .outputs) x3 x5 x6 (g .counts)
     unfolding countsWith
     finish-ready =
-        record { make = make-ready g (r .marked) (r .sized); latch = omega (arith, k3, r .room .latches); bads-room = omega (arith, k5, r .room .bads); outputs-room = omega (arith, k6, r .room .outputs) }
+        record {
+          make = make-ready g (r .marked) (r .sized);
+          latch = omega (arith, k3, r .room .latches);
+          bads-room = omega (arith, k5, r .room .bads);
+          outputs-room = omega (arith, k6, r .room .outputs);
+        }
 
     copy-is : lent x1 x2 x3 x4 x5 x6 x7 x8 x9 n ≡ copyOf n g out
     unfolding copyOf
@@ -80,7 +98,7 @@ module _ (g out : Lent) (r : Ready g out) {n : Counts} (e : n ≡ copyCounts (g 
 
     pub all-moved : {y1 y3 y5 y6 : List ℕ} → y1 ≡ m .rows → y3 ≡ latchSet x3 (g .counts .latches) (latch (g .counts .rows) (m .next) (constantOf true))
         → y5 ≡ firstSet x5 (g .counts .bads) (m .bad) → y6 ≡ firstSet x6 (g .counts .outputs) (m .output)
-        → lent y1 x2 y3 x4 y5 y6 x7 x8 x9 (countsOf g) ≡ moved g out
+        → lent y1 x2 y3 x4 y5 y6 x7 x8 x9 (movedCounts g) ≡ moved g out
     unfolding moved finished
     all-moved p q s t = rw (p, q, s, t) (ap (finished g) (copy-is ∙ ap (λ (k : Counts). copyOf k g out) e))
 

@@ -3,5 +3,5 @@ pub mod Copied
 pub mod Call
 pub mod Growth
 pub mod Result
-pub mod Right
+pub mod Meaning
 pub mod Cases

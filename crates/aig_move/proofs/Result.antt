@@ -23,20 +23,20 @@ use Rattle.graph.specs.Leaves.{latchEdges}
 use Rattle.graph.specs.Graph.{Lent, lent, Sized}
 use Rattle.graph.specs.WellFormed.{listed, WellFormed}
 use Rattle.gates.specs.Gates.{state}
-use Rattle.build.specs.Calls.{counted, left}
+use Rattle.build_leaves.specs.Calls.{counted, left}
 use Rattle.gates.specs.Meaning.{AllUsed, Grows, allTrue}
-use Rattle.build.specs.Graphs.{withRows}
+use Rattle.build_leaves.specs.Graphs.{withRows}
 use Rattle.gates.proofs.Meaning.{grows-value}
-use Rattle.build.proofs.Staying.{rows-stay, latch-stays, listed-used}
-use Rattle.renumber.specs.Room.{Limited, Room}
-use Rattle.renumber.proofs.Writing.{latch-set-length}
-use Rattle.renumber.proofs.Entering.{latch-kept, latch-set-at}
-use Rattle.copy.specs.Copying.{copyOf}
-use Rattle.copy.specs.Meaning.{IsCopy}
-use Rattle.copy.proofs.Copying.{is-copy}
-use Rattle.copy.proofs.Forming.{latch-same, value-same, copy-formed}
+use Rattle.build_leaves.proofs.Graphs.{rows-stay, listed-used}
+use Rattle.build_latches.proofs.Graphs.{latch-stays}
+use Rattle.output.specs.Room.{Limited, Room}
+use Rattle.graph.proofs.Latches.{latch-set-length, latch-kept, latch-set-at}
+use Rattle.output.specs.Copying.{copyOf}
+use Rattle.output.specs.Meaning.{IsCopy}
+use Rattle.output.proofs.Copying.{is-copy}
+use Rattle.output.proofs.Forming.{latch-same, value-same, copy-formed}
 use Rattle.aig_move.specs.Making.{Making, makingOf}
-use Rattle.aig_move.specs.Moving.{making, copyCounts, countsWith, countsOf, firstSet, finished, moved}
+use Rattle.aig_move.specs.Moving.{making, copyCounts, countsWith, movedCounts, firstSet, finished, moved}
 use Rattle.aig_move.specs.Meaning.{NewLatch, FirstGuarded, Moved}
 use Rattle.aig_move.proofs.Steps.{used-like}
 use Rattle.aig_move.proofs.Copied.{copy-room}
@@ -78,7 +78,7 @@ used-front used list n l h i k =
     let q : i < n = omega (arith, length-take-le n list l) in
     rw (getD-take n list i 0 q) (h i q)
 
-module _ (g out : Lent) (marks : ℕ) (s : Sized g marks) (w : WellFormed g) (r : Room out (countsOf g)) (o : Limited out) where
+module _ (g out : Lent) (marks : ℕ) (s : Sized g marks) (w : WellFormed g) (r : Room out (movedCounts g)) (o : Limited out) where
   abbrev n : Counts
   n = g .counts
 
@@ -251,7 +251,8 @@ module _ (g out : Lent) (marks : ℕ) (s : Sized g marks) (w : WellFormed g) (r 
 
   abbrev result : ℕ → Lent
   result used =
-      lent (m .rows) (c .inputs) (latchSet (c .latches) (n .latches) new) (c .constraints) (firstSet (c .bads) (n .bads) (m .bad)) (firstSet (c .outputs) (n .outputs) (m .output)) (c .ends) (c .edges) (c .fairness) (countsWith n used)
+      lent (m .rows) (c .inputs) (latchSet (c .latches) (n .latches) new) (c .constraints) (firstSet (c .bads) (n .bads) (m .bad)) (firstSet (c .outputs) (n .outputs) (m .output)) (c .ends)
+      (c .edges) (c .fairness) (countsWith n used)
 
   formed₃ : WellFormed (result (m .used))
   unfolding countsWith

@@ -1,5 +1,5 @@
 pub mod Making
 pub mod Moving
-pub mod Ready
 pub mod Call
 pub mod Meaning
+pub mod Steps

@@ -7,7 +7,6 @@ use lib.ListN.{take}
 use Rattle.graph.specs.declared.Counts.{Counts}
 use Rattle.gates.specs.Gates.{State, state, addAnd, leafAdded}
 use Rattle.gates.specs.Lists.{listOf}
-use Rattle.aig_move.specs.declared.making.Made.{Made}
 
 -- a leaf, the AND of all constraints, and the AND of the two
 unfoldable pub nextOf : List ℕ → ℕ → List ℕ → State
@@ -27,9 +26,6 @@ pub record Making : Type 0 where
   pub next : ℕ
   pub bad : ℕ
   pub output : ℕ
-
-abbrev pub makingSeen : List ℕ → Made → Making
-makingSeen rows r = record { rows = rows; used = r .used; next = r .next; bad = r .bad; output = r .output }
 
 unfoldable pub makingOf : List ℕ → ℕ → List ℕ → List ℕ → List ℕ → Making
 makingOf rows used constraints bads outputs =

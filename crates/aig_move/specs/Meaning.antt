@@ -14,8 +14,8 @@ use Rattle.graph.specs.WellFormed.{WellFormed}
 use Rattle.gates.specs.Meaning.{allTrue}
 use Rattle.graph.specs.Exactly.{Answers}
 use Rattle.renumber.specs.Kept.{SameBefore}
-use Rattle.renumber.specs.Room.{limits, hasRoom, Limited, Room}
-use Rattle.aig_move.specs.Moving.{countsOf}
+use Rattle.output.specs.Room.{limits, hasRoom, Limited, Room}
+use Rattle.aig_move.specs.Moving.{movedCounts}
 use Rattle.aig_move.specs.Call.{moveCall}
 
 -- all constraints of g hold
@@ -41,7 +41,7 @@ pub record FirstGuarded (g after : Lent) (n : ℕ) (old new : List ℕ) : Type 0
 
 -- `after` is g with its constraints moved into a latch
 pub record Moved (g after : Lent) : Type 0 where
-  pub counts : after .counts ≡ countsOf g
+  pub counts : after .counts ≡ movedCounts g
   -- "clears constraints"
   pub no-constraints : after .counts .constraints ≡ 0
   pub latch : NewLatch g after
@@ -66,14 +66,14 @@ pub record MoveLent (g out : Lent) (marks : List ℕ) : Type 0 where
   pub limited : Limited out
   pub sized : Sized g (length marks)
   pub well-formed : WellFormed g
-  pub room : Room out (countsOf g)
+  pub room : Room out (movedCounts g)
 
 -- `aig_move` is done exactly where what is lent is right and there is room, and then the output is the graph with its constraints in a latch. Else the output is as it was.
 pub record MoveRight (g out : Lent) (marks : List ℕ) : Type 0 where
   pub accepts : MoveLent g out marks → moveCall g out marks .given .number ≡ 0
   pub accepted : moveCall g out marks .given .number ≡ 0 → MoveLent g out marks
   -- each answer exactly in its case, and the marks
-  pub answers : Answers (limits out) true (hasRoom out (countsOf g)) g marks (moveCall g out marks .given) (moveCall g out marks .marks)
+  pub answers : Answers (limits out) true (hasRoom out (movedCounts g)) g marks (moveCall g out marks .given) (moveCall g out marks .marks)
   pub moves : moveCall g out marks .given .number ≡ 0 → Moved g (moveCall g out marks .graph)
   pub refused : (moveCall g out marks .given .number ≡ 0 → ⊥) → moveCall g out marks .graph ≡ out
   -- "then clears constraints": the copy has none, and the words of the room's constraints stay

@@ -9,7 +9,7 @@ use Rattle.edge.specs.Edges.{constantOf}
 use Rattle.graph.specs.declared.Counts.{Counts}
 use Rattle.graph.specs.Latches.{latchSet, latch}
 use Rattle.graph.specs.Graph.{Lent, lent}
-use Rattle.copy.specs.Copying.{copyOf}
+use Rattle.output.specs.Copying.{copyOf}
 use Rattle.aig_move.specs.Making.{Making, makingIn}
 
 -- the rows, where `rows` is the table to which they are added
@@ -27,8 +27,8 @@ countsWith n rows =
     record { rows = rows; inputs = n .inputs; latches = n .latches + 1; constraints = 0; bads = n .bads; outputs = n .outputs; sets = n .sets; edges = n .edges; fairness = n .fairness }
 
 -- the rows are counted by the same steps on no rows
-abbrev pub countsOf : Lent → Counts
-countsOf g = countsWith (g .counts) (making g [] .used)
+abbrev pub movedCounts : Lent → Counts
+movedCounts g = countsWith (g .counts) (making g [] .used)
 
 -- of n entries the first is replaced, where there is one
 unfoldable pub firstSet : List ℕ → ℕ → ℕ → List ℕ
@@ -45,7 +45,7 @@ finished g c =
     (c .ends)
     (c .edges)
     (c .fairness)
-    (countsOf g)
+    (movedCounts g)
 
 -- "`aig_move` works on a copy", which has no constraints
 unfoldable pub moved : Lent → Lent → Lent

@@ -10,20 +10,22 @@ ghost use Rattle.rows.specs.Sizes.{maxEntries};
 ghost use Rattle.graph.specs.Latches.{latchSet, latch};
 ghost use Rattle.graph.specs.Graph.{lent};
 ghost use Rattle.aig_move.specs.Making.{makingIn};
-ghost use Rattle.aig_move.specs.Moving.{copyCounts, countsWith, countsOf, firstSet, moved};
-ghost use Rattle.aig_move.specs.Ready.{FinishReady, Ready};
-ghost use Rattle.renumber.specs.Seen.{rebuiltSeen, foundSeen};
-ghost use Rattle.aig_move.specs.Call.{moveChecked, moveCall};
-use copy::asked;
-use copy::copy_graph;
+ghost use Rattle.aig_move.specs.Moving.{copyCounts, countsWith, movedCounts, firstSet, moved};
+ghost use Rattle.aig_move.specs.Steps.{FinishReady, MoveReady, moveChecked};
+ghost use Rattle.renumber.specs.Seen.{rebuiltSeen};
+ghost use Rattle.renumber.specs.Steps.{foundSeen};
+ghost use Rattle.aig_move.specs.Call.{moveCall};
 use edge::Answer;
 use graph::Counts;
-use graph::latch::Latch;
+use graph::latch::LATCH_WORDS;
+use graph::latch::latch_of;
 use graph::latch::write_latch;
 use making::count_rows;
 use making::make;
+use output::asked;
+use output::copy_graph;
+use output::fits;
 use renumber::Rebuilt;
-use renumber::output::has_room;
 
 // The entries that are copied: all but the constraints.
 fn copy_counts(counts: Counts) -> Counts
@@ -88,17 +90,13 @@ fn finish(
     ensures { λ _. ⌜ now (outputs2 .exit) ≡ firstSet (now (outputs2 .entry)) (counts .outputs) (makingIn (now (rows2 .entry)) (now (constraints .entry)) (now (bads .entry)) (now (outputs .entry)) counts .output) ⌝ }
 {
     let made = make(rows2, constraints, bads, outputs, counts);
-    let l = Latch {
-        input: counts.rows as u32,
-        next: made.next,
-        init: 1,
-    };
+    let l = latch_of(counts.rows as u32, made.next, 1);
     write_latch(latches2, counts.latches, l);
     replace_first(bads2, counts.bads, made.bad);
     replace_first(outputs2, counts.outputs, made.output);
 }
 
-// Answers 1, 2, 3 and 5: no argument can be wrong. Where no answer is left, the counts are those of the result.
+// Answers 1, 2, 3 and 5, where there is so much room for the output: no argument can be wrong. Where no answer is left, the counts are those of the result.
 fn checked(
     rows: &[u32],
     inputs: &[u32],
@@ -110,23 +108,14 @@ fn checked(
     edges: &[u32],
     fairness: &[u32],
     counts: Counts,
-    rows2: &[u32],
-    inputs2: &[u32],
-    latches2: &[u32],
-    constraints2: &[u32],
-    bads2: &[u32],
-    outputs2: &[u32],
-    ends2: &[u32],
-    edges2: &[u32],
-    fairness2: &[u32],
+    room: Counts,
     marks: &mut [u32],
 ) -> Rebuilt
     ensures { λ r. ⌜
         foundSeen r (now (marks .exit))
         ≡ moveChecked
         (lent (now (rows .entry)) (now (inputs .entry)) (now (latches .entry)) (now (constraints .entry)) (now (bads .entry)) (now (outputs .entry)) (now (ends .entry)) (now (edges .entry)) (now (fairness .entry)) counts)
-        (lent (now (rows2 .entry)) (now (inputs2 .entry)) (now (latches2 .entry)) (now (constraints2 .entry)) (now (bads2 .entry)) (now (outputs2 .entry)) (now (ends2 .entry)) (now (edges2 .entry)) (now (fairness2 .entry)) counts)
-        (now (marks .entry))
+        room (now (marks .entry))
         ⌝ }
 {
     let answer = asked(
@@ -141,33 +130,14 @@ fn checked(
         fairness,
         counts,
         true,
-        rows2,
-        inputs2,
-        latches2,
-        constraints2,
-        bads2,
-        outputs2,
-        ends2,
-        edges2,
-        fairness2,
+        room,
         marks,
     );
     if !edge::is_done(answer) {
         return Rebuilt { answer, counts };
     }
     let need = counts_with(counts, count_rows(constraints, bads, outputs, counts));
-    if !has_room(
-        rows2,
-        inputs2,
-        latches2,
-        constraints2,
-        bads2,
-        outputs2,
-        ends2,
-        edges2,
-        fairness2,
-        need,
-    ) {
+    if !fits(room, need) {
         return Rebuilt {
             answer: Answer::NoRoom,
             counts,
@@ -202,11 +172,11 @@ fn write(
     fairness2: &mut [u32],
 )
     requires { ⌜
-        Ready (lent (now rows) (now inputs) (now latches) (now constraints) (now bads) (now outputs) (now ends) (now edges) (now fairness) counts)
+        MoveReady (lent (now rows) (now inputs) (now latches) (now constraints) (now bads) (now outputs) (now ends) (now edges) (now fairness) counts)
         (lent (now rows2) (now inputs2) (now latches2) (now constraints2) (now bads2) (now outputs2) (now ends2) (now edges2) (now fairness2) counts)
         ⌝ }
     ensures { λ _. ⌜
-        lent (now (rows2 .exit)) (now (inputs2 .exit)) (now (latches2 .exit)) (now (constraints2 .exit)) (now (bads2 .exit)) (now (outputs2 .exit)) (now (ends2 .exit)) (now (edges2 .exit)) (now (fairness2 .exit)) (countsOf (lent (now (rows .entry)) (now (inputs .entry)) (now (latches .entry)) (now (constraints .entry)) (now (bads .entry)) (now (outputs .entry)) (now (ends .entry)) (now (edges .entry)) (now (fairness .entry)) counts))
+        lent (now (rows2 .exit)) (now (inputs2 .exit)) (now (latches2 .exit)) (now (constraints2 .exit)) (now (bads2 .exit)) (now (outputs2 .exit)) (now (ends2 .exit)) (now (edges2 .exit)) (now (fairness2 .exit)) (movedCounts (lent (now (rows .entry)) (now (inputs .entry)) (now (latches .entry)) (now (constraints .entry)) (now (bads .entry)) (now (outputs .entry)) (now (ends .entry)) (now (edges .entry)) (now (fairness .entry)) counts))
         ≡ moved
         (lent (now (rows .entry)) (now (inputs .entry)) (now (latches .entry)) (now (constraints .entry)) (now (bads .entry)) (now (outputs .entry)) (now (ends .entry)) (now (edges .entry)) (now (fairness .entry)) counts)
         (lent (now (rows2 .entry)) (now (inputs2 .entry)) (now (latches2 .entry)) (now (constraints2 .entry)) (now (bads2 .entry)) (now (outputs2 .entry)) (now (ends2 .entry)) (now (edges2 .entry)) (now (fairness2 .entry)) counts)
@@ -279,6 +249,17 @@ pub fn aig_move(
         (now (marks .entry))
         ⌝ }
 {
+    let room = Counts {
+        rows: rows2.len() / 2,
+        inputs: inputs2.len(),
+        latches: latches2.len() / LATCH_WORDS,
+        constraints: constraints2.len(),
+        bads: bads2.len(),
+        outputs: outputs2.len(),
+        sets: ends2.len(),
+        edges: edges2.len(),
+        fairness: fairness2.len(),
+    };
     let found = checked(
         rows,
         inputs,
@@ -290,15 +271,7 @@ pub fn aig_move(
         edges,
         fairness,
         counts,
-        rows2,
-        inputs2,
-        latches2,
-        constraints2,
-        bads2,
-        outputs2,
-        ends2,
-        edges2,
-        fairness2,
+        room,
         marks,
     );
     let answer = found.answer;

@@ -7,8 +7,8 @@ use crate::outcome::of_counts;
 use crate::outcome::unknown;
 use crate::slots;
 use crate::slots::words;
-use build::Added;
-use build::Built;
+use build_leaves::Added;
+use build_leaves::Built;
 
 pub fn run(
     call: u64,
@@ -53,12 +53,12 @@ fn leaf(call: u64, scalars: &[u64], rows: &mut [u32], list: &mut [u32]) -> Outco
     let a = word(scalars, 9);
     let b = word(scalars, 10);
     match call {
-        40 => of_counted(build::new(rows)),
-        41 => of_added(build::new_leaf_node(rows, n)),
-        42 => of_added(build::new_input(rows, list, n)),
-        43 => of_listed(build::add_input(rows, list, n, a)),
-        44 => of_added(build::new_latch(rows, list, n, a, b)),
-        45 => of_listed(build::add_latch(rows, list, n, a, b, word(scalars, 11))),
+        40 => of_counted(build_leaves::new(rows)),
+        41 => of_added(build_leaves::new_leaf_node(rows, n)),
+        42 => of_added(build_leaves::new_input(rows, list, n)),
+        43 => of_listed(build_leaves::add_input(rows, list, n, a)),
+        44 => of_added(build_latches::new_latch(rows, list, n, a, b)),
+        45 => of_listed(build_latches::add_latch(rows, list, n, a, b, word(scalars, 11))),
         _ => unknown(),
     }
 }
@@ -68,12 +68,12 @@ fn of_two(call: u64, scalars: &[u64], rows: &mut [u32]) -> Outcome {
     let a = word(scalars, 9);
     let b = word(scalars, 10);
     match call {
-        50 => of_built(build::trivial_new_and_node(rows, n, a, b)),
-        51 => of_built(build::new_and_node(rows, n, a, b)),
-        52 => of_built(build::trivial_new_or_node(rows, n, a, b)),
-        53 => of_built(build::new_or_node(rows, n, a, b)),
-        58 => of_built(build::new_imply_node(rows, n, a, b)),
-        59 => of_built(build::new_eq_node(rows, n, a, b)),
+        50 => of_built(build_nodes::trivial_new_and_node(rows, n, a, b)),
+        51 => of_built(build_nodes::new_and_node(rows, n, a, b)),
+        52 => of_built(build_nodes::trivial_new_or_node(rows, n, a, b)),
+        53 => of_built(build_nodes::new_or_node(rows, n, a, b)),
+        58 => of_built(build_nodes::new_imply_node(rows, n, a, b)),
+        59 => of_built(build_nodes::new_eq_node(rows, n, a, b)),
         _ => unknown(),
     }
 }
@@ -81,10 +81,10 @@ fn of_two(call: u64, scalars: &[u64], rows: &mut [u32]) -> Outcome {
 fn of_list(call: u64, scalars: &[u64], rows: &mut [u32], edges: &[u32]) -> Outcome {
     let n = counts(scalars);
     match call {
-        54 => of_built(build::trivial_new_ands_node(rows, n, edges)),
-        55 => of_built(build::new_ands_node(rows, n, edges)),
-        56 => of_built(build::trivial_new_ors_node(rows, n, edges)),
-        57 => of_built(build::new_ors_node(rows, n, edges)),
+        54 => of_built(build_nodes::trivial_new_ands_node(rows, n, edges)),
+        55 => of_built(build_nodes::new_ands_node(rows, n, edges)),
+        56 => of_built(build_nodes::trivial_new_ors_node(rows, n, edges)),
+        57 => of_built(build_nodes::new_ors_node(rows, n, edges)),
         _ => unknown(),
     }
 }

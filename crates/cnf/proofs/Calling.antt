@@ -21,15 +21,17 @@ use Rattle.graph.specs.Check.{CheckSeen, checkSeen, checkCall, cleared}
 use Rattle.graph.specs.WellFormed.{WellFormed}
 use Rattle.graph.proofs.WellFormed.{exact}
 use Rattle.graph.proofs.Counting.{count-within}
-use Rattle.roots.specs.Marking.{markEdges}
-use Rattle.roots.specs.Roots.{RootsFit, rootsOf}
-use Rattle.roots.proofs.Flagging.{cleared-all}
-use Rattle.roots.proofs.Marking.{edges-long}
-use Rattle.roots.proofs.Roots.{roots-known}
-use Rattle.shapes.specs.Shapes.{unit, words, WrittenIfRoom}
+use Rattle.root_marks.specs.Marking.{markEdges}
+use Rattle.root_marks.specs.Steps.{RootsFit}
+use Rattle.root_marks.specs.Roots.{rootsOf}
+use Rattle.root_marks.proofs.Flagging.{cleared-all}
+use Rattle.root_marks.proofs.Marking.{edges-long}
+use Rattle.root_marks.proofs.Roots.{roots-known}
+use Rattle.gate_clauses.specs.Shapes.{unit, words, WrittenIfRoom}
 use Rattle.cnf.specs.Clauses.{walk, clausesIn, cnfOf}
-use Rattle.cnf.specs.Call.{cnfAnswer, cnfSeen, writtenOver, cnfCall, Ready}
-use Rattle.shapes.proofs.Writing.{sets-both}
+use Rattle.cnf.specs.Call.{cnfAnswer, cnfSeen, writtenOver, cnfCall}
+use Rattle.cnf.specs.Steps.{ClausesReady}
+use Rattle.gate_clauses.proofs.Writing.{sets-both}
 use Rattle.cnf.proofs.Decoding.{clauses-few, clauses-most}
 
 -- a run of stores from the start
@@ -37,7 +39,7 @@ pub sets-over : (l ws : List ℕ) → length ws ≤ length l → sets l 0 ws ≡
 sets-over l ws h = sets-eq ws l 0 (omega arith) ∙ (let e : 0 + length ws ≡ length ws = omega arith in ap (λ (n : ℕ). ws ++ drop n l) e)
 
 -- ---- the steps: the roots are marked, the walk is made, the marks are cleared
-module _ (shortcuts : Bool) (rows roots marks : List ℕ) (r : Ready rows (length marks) roots marks) {marked : List ℕ} (p : marked ≡ markEdges roots marks) where
+module _ (shortcuts : Bool) (rows roots marks : List ℕ) (r : ClausesReady rows (length marks) roots marks) {marked : List ℕ} (p : marked ≡ markEdges roots marks) where
   pub marked-long : length marked ≡ length marks
   marked-long = ap length p ∙ edges-long roots marks
 
@@ -70,7 +72,7 @@ module _ (shortcuts : Bool) (rows roots marks : List ℕ) (r : Ready rows (lengt
 
 -- ---- where there is room for the most that there can be, there is room
 module _ (shortcuts : Bool) (rows roots marks : List ℕ) (room : ℕ) where
-  pub room-for-most : Ready rows (length marks) roots marks → 2 + 16 * (length marks - 1) ≤ room → true ≡ leb (length (words (clausesIn shortcuts rows (length marks) roots))) room
+  pub room-for-most : ClausesReady rows (length marks) roots marks → 2 + 16 * (length marks - 1) ≤ room → true ≡ leb (length (words (clausesIn shortcuts rows (length marks) roots))) room
   room-for-most r l = sym (le-leb (length (words (clausesIn shortcuts rows (length marks) roots))) room (omega (arith, l, clauses-most shortcuts rows (length marks) roots (r .some-row))))
 
   pub room-for-gates : {gates : ℕ} → gates ≡ gatesBelow rows (length marks) → 2 + 16 * gates ≤ room → true ≡ leb (length (words (clausesIn shortcuts rows (length marks) roots))) room
@@ -118,7 +120,7 @@ module _ (g : Lent) (shortcuts : Bool) (clauses marks : List ℕ) (a : Answer) {
     pub roots-fit : RootsFit (g .latches) (g .constraints) (g .bads) (g .outputs) (g .edges) (g .fairness) (g .counts)
     roots-fit = roots-known g (length marks) (right .0) (right .1) .fit
 
-    pub ready : Ready (g .rows) (length (take used after)) (rootsOf g) (take used after)
+    pub ready : ClausesReady (g .rows) (length (take used after)) (rootsOf g) (take used after)
     ready =
         let s = right .0 in
         rw part-long
@@ -144,7 +146,7 @@ module _ (g : Lent) (shortcuts : Bool) (clauses marks : List ℕ) (a : Answer) {
       pub again-long : used ≤ length again
       again-long = rw put-back marks-long
 
-      pub again-ready : Ready (g .rows) (length (take used again)) (rootsOf g) (take used again)
+      pub again-ready : ClausesReady (g .rows) (length (take used again)) (rootsOf g) (take used again)
       again-ready = rw put-back ready
 
       abbrev ws : List ℕ

@@ -10,10 +10,10 @@ use lib.Seq.{take-append-seam, drop-append-seam}
 use lib.Dec.{eqb}
 use Rattle.rows.specs.Rows.{word0, word1, gateAt}
 use Rattle.rows.proofs.Laws.{gate-below}
-use Rattle.roots.specs.Marking.{markEdges}
-use Rattle.shapes.specs.declared.Shape.{Shape}
-use Rattle.shapes.specs.declared.Shape.the-variants.{Unwritten, Plain, Xor, Ite}
-use Rattle.shapes.specs.Shapes.{shapeOf, operands, clausesOf, words}
+use Rattle.root_marks.specs.Marking.{markEdges}
+use Rattle.gate_clauses.specs.declared.Shape.{Shape}
+use Rattle.gate_clauses.specs.declared.Shape.the-variants.{Unwritten, Plain, Xor, Ite}
+use Rattle.gate_clauses.specs.Shapes.{shapeOf, operands, clausesOf, words}
 use Rattle.cnf.specs.Clauses.{writtenAt, walk, clausesIn}
 use Rattle.cnf.specs.Decode.{firstClauses, decoded}
 use Rattle.graph.specs.Count.{countBelow, gatesBelow}

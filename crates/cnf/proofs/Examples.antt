@@ -10,9 +10,9 @@ use Rattle.edge.specs.Meaning.{edgeValue}
 use Rattle.edge.proofs.Tests.{false-true}
 use Rattle.rows.specs.Rows.{isLeaf, isGate}
 use Rattle.rows.specs.Value.{rowValue, valueBelow, value}
-use Rattle.roots.specs.Marking.{markEdges}
-use Rattle.roots.specs.Roots.{latchRoot, latchRoots}
-use Rattle.shapes.specs.Shapes.{isXor, iteOr, pairing, recognised, shapeOf, operands, clausesOf}
+use Rattle.root_marks.specs.Marking.{markEdges}
+use Rattle.root_marks.specs.Roots.{latchRoot, latchRoots}
+use Rattle.gate_clauses.specs.Shapes.{isXor, iteOr, pairing, recognised, shapeOf, operands, clausesOf}
 use Rattle.cnf.specs.Clauses.{writtenAt, walk, clausesIn}
 use Rattle.cnf.specs.Meaning.{holds, meets}
 use Rattle.cnf.specs.Examples.{ShutOut, Tempting}

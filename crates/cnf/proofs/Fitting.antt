@@ -17,10 +17,10 @@ use Rattle.rows.specs.Value.{value}
 use Rattle.rows.proofs.Laws.{gate-below}
 use Rattle.rows.proofs.Value.{value-gate}
 use Rattle.graph.specs.Leaves.{usedEdge}
-use Rattle.roots.specs.Arguments.{every}
-use Rattle.shapes.specs.declared.Shape.{Shape}
-use Rattle.shapes.specs.declared.Shape.the-variants.{Unwritten, Plain, Xor, Ite}
-use Rattle.shapes.specs.Shapes.{isXor, iteOr, pairing, recognised, complementedGate, shapeOf, operands, clausesOf}
+use Rattle.root_marks.specs.Arguments.{every}
+use Rattle.gate_clauses.specs.declared.Shape.{Shape}
+use Rattle.gate_clauses.specs.declared.Shape.the-variants.{Unwritten, Plain, Xor, Ite}
+use Rattle.gate_clauses.specs.Shapes.{isXor, iteOr, pairing, recognised, complementedGate, shapeOf, operands, clausesOf}
 use Rattle.cnf.specs.Meaning.{holds, meets}
 use Rattle.cnf.proofs.Booleans.{cond-case, plain-clauses, xor-clauses, ite-clauses, xor-gate, ite-gate}
 
@@ -103,11 +103,10 @@ module _ (v : ℕ → Bool) (i : ℕ) (w : Bool) (plain : Shape) (p : Fits v i w
   pairing-fits : Fits v i w (pairing plain a b c d)
   unfolding pairing
   pairing-fits =
-      cond-case (Fits v i w) (eqb a (complement c)) (λ h. ite-or v i w plain _ _ _ p (chooses v i w a b c d (eqb-true _ _ h) e la lb ld))
-      λ _. cond-case (Fits v i w) (eqb a (complement d)) (λ h. ite-or v i w plain _ _ _ p (chooses v i w a b d c (eqb-true _ _ h) (rw (and-comm (edgeValue v d) (edgeValue v c)) e) la lb lc))
-      λ _. cond-case (Fits v i w) (eqb b (complement c)) (λ h. ite-or v i w plain _ _ _ p (chooses v i w b a c d (eqb-true _ _ h) (rw (and-comm (edgeValue v b) (edgeValue v a)) e) lb la ld))
-      λ _. cond-case (Fits v i w) (eqb b (complement d)) (λ h. ite-or v i w plain _ _ _ p (chooses v i w b a d c (eqb-true _ _ h) (rw (and-comm (edgeValue v b) (edgeValue v a), and-comm (edgeValue v d) (edgeValue v c)) e) lb la lc))
-      λ _. p
+      cond-case (Fits v i w) (eqb a (complement c)) (λ h. ite-or v i w plain _ _ _ p (chooses v i w a b c d (eqb-true _ _ h) e la lb ld)) λ _. cond-case (Fits v i w) (eqb a (complement d))
+      (λ h. ite-or v i w plain _ _ _ p (chooses v i w a b d c (eqb-true _ _ h) (rw (and-comm (edgeValue v d) (edgeValue v c)) e) la lb lc)) λ _. cond-case (Fits v i w) (eqb b (complement c))
+      (λ h. ite-or v i w plain _ _ _ p (chooses v i w b a c d (eqb-true _ _ h) (rw (and-comm (edgeValue v b) (edgeValue v a)) e) lb la ld)) λ _. cond-case (Fits v i w) (eqb b (complement d))
+      (λ h. ite-or v i w plain _ _ _ p (chooses v i w b a d c (eqb-true _ _ h) (rw (and-comm (edgeValue v b) (edgeValue v a), and-comm (edgeValue v d) (edgeValue v c)) e) lb la lc)) λ _. p
 
   xor-fits : isXor a b c d ≡ true → Fits v i w (Xor a b)
   unfolding isXor meaning operands

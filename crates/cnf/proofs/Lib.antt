@@ -4,5 +4,5 @@ pub mod Sound
 pub mod Decoding
 pub mod Walking
 pub mod Calling
-pub mod Translating
+pub mod Meaning
 pub mod Examples

@@ -19,16 +19,16 @@ use Rattle.rows.proofs.Value.{value-zero, value-other, value-leaf}
 use Rattle.graph.specs.Leaves.{usedEdge}
 use Rattle.graph.specs.Graph.{Lent, Sized}
 use Rattle.graph.specs.WellFormed.{WellFormed}
-use Rattle.roots.specs.Flags.{Flagged}
-use Rattle.roots.specs.Marking.{markEdges}
-use Rattle.roots.specs.Roots.{rootsOf}
-use Rattle.roots.proofs.Arguments.{every-at}
-use Rattle.roots.proofs.Flagging.{same-edge}
-use Rattle.roots.proofs.Marking.{edges-long, edges-keep, edges-flagged}
-use Rattle.roots.proofs.Roots.{roots-known}
-use Rattle.shapes.specs.declared.Shape.{Shape}
-use Rattle.shapes.specs.declared.Shape.the-variants.{Unwritten}
-use Rattle.shapes.specs.Shapes.{shapeOf, operands, clausesOf, unit}
+use Rattle.root_marks.specs.Flags.{Flagged}
+use Rattle.root_marks.specs.Marking.{markEdges}
+use Rattle.root_marks.specs.Roots.{rootsOf}
+use Rattle.root_marks.proofs.Arguments.{every-at}
+use Rattle.root_marks.proofs.Flagging.{same-edge}
+use Rattle.root_marks.proofs.Marking.{edges-long, edges-keep, edges-flagged}
+use Rattle.root_marks.proofs.Roots.{roots-known}
+use Rattle.gate_clauses.specs.declared.Shape.{Shape}
+use Rattle.gate_clauses.specs.declared.Shape.the-variants.{Unwritten}
+use Rattle.gate_clauses.specs.Shapes.{shapeOf, operands, clausesOf, unit}
 use Rattle.cnf.specs.Clauses.{writtenAt, walk, clausesIn, cnfOf}
 use Rattle.cnf.specs.Meaning.{holds, meets, Translates}
 use Rattle.cnf.proofs.Booleans.{cond-case, beq-true, beq-same}
@@ -164,7 +164,8 @@ module _ (shortcuts : Bool) (g : Lent) (marks : ℕ) (s : Sized g marks) (w : We
       let u = ltb-true _ _ (every-at (usedEdge (g .counts .rows)) (rootsOf g) (roots-known g marks s w .used) k l) in
       let m = edges-flagged (rootsOf g) (replicate (g .counts .rows) 0) k l (rw (length-replicate {A = ℕ} (g .counts .rows) 0) u) in
       same-edge v (value (g .rows) v) (getD (rootsOf g) k 0)
-      (walk-right shortcuts (g .rows) (g .counts .rows) (w .rows) v (not-true (v 0) (sym (unit-says v) ∙ t .0)) (g .counts .rows) (omega arith) start (omega (arith, start-long)) (t .1) (idOf (getD (rootsOf g) k 0)) u m)
+      (walk-right shortcuts (g .rows) (g .counts .rows) (w .rows) v (not-true (v 0) (sym (unit-says v) ∙ t .0)) (g .counts .rows) (omega arith) start (omega (arith, start-long)) (t .1)
+      (idOf (getD (rootsOf g) k 0)) u m)
 
   pub translates : Translates g (cnfOf shortcuts g)
   translates =

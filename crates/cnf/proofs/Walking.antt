@@ -14,18 +14,18 @@ use Rattle.edge.proofs.Tests.{both}
 use Rattle.rows.specs.Sizes.{maxRows}
 use Rattle.rows.specs.Rows.{word0, word1, gateAt}
 use Rattle.graph.specs.Leaves.{usedEdge}
-use Rattle.roots.specs.Arguments.{every}
-use Rattle.roots.specs.Marking.{markEdges}
-use Rattle.roots.proofs.Arguments.{every-at, at-every}
-use Rattle.roots.proofs.Marking.{edges-long}
-use Rattle.shapes.specs.declared.Shape.{Shape}
-use Rattle.shapes.specs.declared.Shape.the-variants.{Unwritten, Plain, Xor, Ite}
-use Rattle.shapes.specs.Shapes.{shapeOf, operands, clausesOf, words, WrittenIfRoom}
+use Rattle.root_marks.specs.Arguments.{every}
+use Rattle.root_marks.specs.Marking.{markEdges}
+use Rattle.root_marks.proofs.Arguments.{every-at, at-every}
+use Rattle.root_marks.proofs.Marking.{edges-long}
+use Rattle.gate_clauses.specs.declared.Shape.{Shape}
+use Rattle.gate_clauses.specs.declared.Shape.the-variants.{Unwritten, Plain, Xor, Ite}
+use Rattle.gate_clauses.specs.Shapes.{shapeOf, operands, clausesOf, words, WrittenIfRoom}
 use Rattle.cnf.specs.Clauses.{writtenAt, walk}
 use Rattle.cnf.proofs.Fitting.{shape-fits}
 use Rattle.graph.proofs.Counting.{count-within}
 use Rattle.cnf.proofs.Decoding.{words-both, walk-few}
-use Rattle.shapes.proofs.Writing.{sets-both}
+use Rattle.gate_clauses.proofs.Writing.{sets-both}
 
 -- ---- the operands of a shape, edge by edge
 pub mark-one : (e : ℕ) (marks : List ℕ) {after : List ℕ} → after ≡ markEdges (e ∷ []) marks → length after ≡ length marks
@@ -125,7 +125,9 @@ module _ (shortcuts : Bool) (rows : List ℕ) where
     unfolding walk
     left-turn =
         let d : i ≡ suc (i - 1) = omega arith in
-        ap (λ (k : ℕ). wordsLeft shortcuts rows k marks) d ∙ (words-both (clausesOf (2 * (i - 1)) (writtenAt shortcuts rows (i - 1) marks)) (walk shortcuts rows (i - 1) (markEdges (operands (writtenAt shortcuts rows (i - 1) marks)) marks)) ∙ rw e)
+        ap (λ (k : ℕ). wordsLeft shortcuts rows k marks) d ∙
+        (words-both (clausesOf (2 * (i - 1)) (writtenAt shortcuts rows (i - 1) marks)) (walk shortcuts rows (i - 1) (markEdges (operands (writtenAt shortcuts rows (i - 1) marks)) marks)) ∙
+        rw e)
 
     pub left-size : length (wordsLeft shortcuts rows i marks) ≡ length (words (clausesOf (2 * (i - 1)) s)) + length (wordsLeft shortcuts rows (i - 1) (markEdges (operands s) marks))
     left-size = ap length left-turn ∙ length-append (words (clausesOf (2 * (i - 1)) s)) _

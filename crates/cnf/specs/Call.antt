@@ -1,21 +1,18 @@
 -- What `cnf` answers and writes.
 -- Assumes nothing.
-use Prim.Native.Nat.{ℕ, _*_, _≤_, _<_}
+use Prim.Native.Nat.{ℕ}
 use mathlib.Core.Path.{_≡_, ap}
 use mathlib.Core.List.{List, _++_}
-use mathlib.Core.Bool.{Bool, true, cond}
-use lib.ListN.{length, drop, replicate}
+use mathlib.Core.Bool.{Bool, cond}
+use lib.ListN.{length, drop}
 use lib.Dec.{leb}
 use Rattle.edge.specs.declared.answer.Given.{Given}
 use Rattle.edge.specs.Answers.{done, noRoom, told, told-injective, orElse, determined}
-use Rattle.rows.specs.Sizes.{maxRows}
 use Rattle.rows.specs.Reading.{ifDone}
-use Rattle.graph.specs.Leaves.{usedEdge}
 use Rattle.graph.specs.Graph.{Lent}
 use Rattle.graph.specs.Check.{checkCall}
-use Rattle.roots.specs.Arguments.{every}
 use Rattle.cnf.specs.declared.ClausesAnswer.{ClausesAnswer}
-use Rattle.shapes.specs.Shapes.{words}
+use Rattle.gate_clauses.specs.Shapes.{words}
 use Rattle.cnf.specs.Clauses.{cnfOf}
 
 -- 1, 2 and 3 as `check` gives them, then 5: "clause words still free are fewer than the call needs"
@@ -46,14 +43,6 @@ cnfCall g shortcuts clauses marks =
       clauses = ifDone given (writtenOver ws clauses) clauses;
       marks = checkCall g marks .marks;
     }
-
--- what the steps of the call are lent, once the graph is checked: the rows and roots are there, and the marks are 0
-pub record Ready (rows : List ℕ) (used : ℕ) (roots marks : List ℕ) : Type 0 where
-  pub some-row : 0 < used
-  pub rows-there : 2 * used ≤ length rows
-  pub rows-few : used ≤ maxRows
-  pub roots-used : every (usedEdge used) roots ≡ true
-  pub clear : marks ≡ replicate used 0
 
 -- any two results that the promise allows are equal
 pub cnf-determined : (g : Lent) (shortcuts : Bool) (clauses marks : List ℕ) (r s : ClausesAnswer) (a b m n : List ℕ)

@@ -7,11 +7,11 @@ use lib.ListN.{getD, replicate}
 use lib.Dec.{eqb}
 use Rattle.rows.specs.Rows.{word0, word1, gateAt}
 use Rattle.graph.specs.Graph.{Lent}
-use Rattle.roots.specs.Marking.{markEdges}
-use Rattle.roots.specs.Roots.{rootsOf}
-use Rattle.shapes.specs.Shapes.{shapeOf, operands, clausesOf, unit}
-use Rattle.shapes.specs.declared.Shape.{Shape}
-use Rattle.shapes.specs.declared.Shape.the-variants.{Unwritten}
+use Rattle.root_marks.specs.Marking.{markEdges}
+use Rattle.root_marks.specs.Roots.{rootsOf}
+use Rattle.gate_clauses.specs.Shapes.{shapeOf, operands, clausesOf, unit}
+use Rattle.gate_clauses.specs.declared.Shape.{Shape}
+use Rattle.gate_clauses.specs.declared.Shape.the-variants.{Unwritten}
 
 -- what row i is written as, where a mark of 1 says that a row is referenced: a gate that is has its shape, and no other row is written
 unfoldable pub writtenAt : Bool → List ℕ → ℕ → List ℕ → Shape

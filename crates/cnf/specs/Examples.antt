@@ -9,9 +9,9 @@ use lib.Dec.{eqb}
 use Rattle.rows.specs.Rows.{falseWord, none}
 use Rattle.rows.specs.Value.{value}
 use Rattle.graph.specs.Graph.{Lent, lent}
-use Rattle.roots.specs.Marking.{markEdges}
-use Rattle.shapes.specs.declared.Shape.the-variants.{Plain, Xor}
-use Rattle.shapes.specs.Shapes.{shapeOf}
+use Rattle.root_marks.specs.Marking.{markEdges}
+use Rattle.gate_clauses.specs.declared.Shape.the-variants.{Plain, Xor}
+use Rattle.gate_clauses.specs.Shapes.{shapeOf}
 use Rattle.cnf.specs.Clauses.{walk, cnfOf}
 use Rattle.cnf.specs.Meaning.{meets, Translates}
 

@@ -3,3 +3,4 @@ pub mod Decode
 pub mod Call
 pub mod Meaning
 pub mod Examples
+pub mod Steps

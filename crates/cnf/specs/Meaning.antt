@@ -14,9 +14,9 @@ use Rattle.graph.specs.Count.{gatesBelow}
 use Rattle.graph.specs.Graph.{Lent, Sized}
 use Rattle.graph.specs.WellFormed.{WellFormed}
 use Rattle.graph.specs.Exactly.{Answers}
-use Rattle.roots.specs.Roots.{rootsOf}
+use Rattle.root_marks.specs.Roots.{rootsOf}
 use Rattle.cnf.specs.declared.ClausesAnswer.{ClausesAnswer}
-use Rattle.shapes.specs.Shapes.{words}
+use Rattle.gate_clauses.specs.Shapes.{words}
 use Rattle.cnf.specs.Clauses.{cnfOf}
 use Rattle.cnf.specs.Decode.{decoded}
 use Rattle.cnf.specs.Call.{cnfSeen, cnfCall}

@@ -7,16 +7,18 @@ ghost use lib.ListN.{length};
 ghost use lib.Dec.{leb};
 ghost use Rattle.graph.specs.Graph.{lent};
 ghost use Rattle.graph.specs.Count.{gatesBelow};
-ghost use Rattle.roots.specs.Roots.{RootsFit, rootsIn};
-ghost use Rattle.shapes.specs.Shapes.{words, WrittenIfRoom};
+ghost use Rattle.root_marks.specs.Steps.{RootsFit};
+ghost use Rattle.root_marks.specs.Roots.{rootsIn};
+ghost use Rattle.gate_clauses.specs.Shapes.{words, WrittenIfRoom};
 ghost use Rattle.cnf.specs.Clauses.{clausesIn};
-ghost use Rattle.cnf.specs.Call.{Ready, cnfSeen, cnfCall};
+ghost use Rattle.cnf.specs.Steps.{ClausesReady};
+ghost use Rattle.cnf.specs.Call.{cnfSeen, cnfCall};
 use edge::Answer;
+use gate_clauses::put::put_unit;
 use graph::Counts;
 use graph::marks::clear;
-use roots::mark_roots;
+use root_marks::mark_roots;
 use rows::kinds::is_gate;
-use shapes::put::put_unit;
 use walk::put_rows;
 
 // An answer, and how many words of clauses were written: 0 where it is refused.
@@ -40,7 +42,7 @@ fn put_words(
     marks: &mut [u32],
 ) -> usize
     requires { ⌜ RootsFit (now latches) (now constraints) (now bads) (now outputs) (now edges) (now fairness) counts ⌝ }
-    requires { ⌜ Ready (now rows) (length (now marks)) (rootsIn (now latches) (now constraints) (now bads) (now outputs) (now edges) (now fairness) counts) (now marks) ⌝ }
+    requires { ⌜ ClausesReady (now rows) (length (now marks)) (rootsIn (now latches) (now constraints) (now bads) (now outputs) (now edges) (now fairness) counts) (now marks) ⌝ }
     ensures number { λ r. ⌜
         r
         ≡ length (words (clausesIn shortcuts (now (rows .entry)) (length (now (marks .entry))) (rootsIn (now (latches .entry)) (now (constraints .entry)) (now (bads .entry)) (now (outputs .entry)) (now (edges .entry)) (now (fairness .entry)) counts)))
@@ -99,7 +101,7 @@ fn has_room(
     marks: &mut [u32],
 ) -> bool
     requires { ⌜ RootsFit (now latches) (now constraints) (now bads) (now outputs) (now edges) (now fairness) counts ⌝ }
-    requires { ⌜ Ready (now rows) (length (now marks)) (rootsIn (now latches) (now constraints) (now bads) (now outputs) (now edges) (now fairness) counts) (now marks) ⌝ }
+    requires { ⌜ ClausesReady (now rows) (length (now marks)) (rootsIn (now latches) (now constraints) (now bads) (now outputs) (now edges) (now fairness) counts) (now marks) ⌝ }
     ensures fits { λ r. ⌜
         r
         ≡ leb (length (words (clausesIn shortcuts (now (rows .entry)) (length (now (marks .entry))) (rootsIn (now (latches .entry)) (now (constraints .entry)) (now (bads .entry)) (now (outputs .entry)) (now (edges .entry)) (now (fairness .entry)) counts)))) room

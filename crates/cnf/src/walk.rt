@@ -6,14 +6,14 @@ ghost use Prim.Native.Nat.{_+_, _*_, _≤_, _<_};
 ghost use lib.ListN.{length};
 ghost use Rattle.rows.specs.Sizes.{maxRows};
 ghost use Rattle.graph.specs.Leaves.{usedEdge};
-ghost use Rattle.roots.specs.Arguments.{every};
-ghost use Rattle.roots.specs.Marking.{markEdges};
-ghost use Rattle.shapes.specs.Shapes.{operands, words, WrittenIfRoom};
+ghost use Rattle.root_marks.specs.Arguments.{every};
+ghost use Rattle.root_marks.specs.Marking.{markEdges};
+ghost use Rattle.gate_clauses.specs.Shapes.{operands, words, WrittenIfRoom};
 ghost use Rattle.cnf.specs.Clauses.{writtenAt, walk};
+use gate_clauses::Shape;
+use gate_clauses::put::put_shape;
+use gate_clauses::shape_of;
 use rows::kinds::is_gate;
-use shapes::Shape;
-use shapes::put::put_shape;
-use shapes::shape_of;
 
 // Marks the row of an edge.
 fn mark_edge(e: u32, marks: &mut [u32])

@@ -18,10 +18,10 @@ use Rattle.rows.specs.Sizes.{maxEntries}
 use Rattle.graph.specs.Graph.{Lent, Sized}
 use Rattle.graph.specs.Check.{cleared, CheckSeen, checkSeen}
 use Rattle.graph.specs.WellFormed.{WellFormed}
-use Rattle.roots.specs.Arguments.{every}
-use Rattle.roots.proofs.Arguments.{Accepted, args-accepted, args-roomy, args-cleared}
+use Rattle.root_marks.specs.Arguments.{every}
+use Rattle.root_marks.proofs.Arguments.{Accepted, args-accepted, args-roomy, args-cleared}
 use Rattle.coi.specs.Coi.{steps, searched, usedRow}
-use Rattle.coi.specs.Walk.{LatchesKnown, Ready}
+use Rattle.coi.specs.Steps.{LatchesKnown, CoiReady}
 use Rattle.coi.specs.Call.{coiRoom, coiChecked, coiSeen, coiCall}
 
 -- ---- the answer and the marks
@@ -61,7 +61,7 @@ latches-known g marks s w =
       nexts-used = w .nexts;
     }
 
-pub ready : (g : Lent) (marks : ℕ) → Sized g marks → WellFormed g → Ready (g .rows) (g .latches) (g .counts .latches) (g .counts .rows)
+pub ready : (g : Lent) (marks : ℕ) → Sized g marks → WellFormed g → CoiReady (g .rows) (g .latches) (g .counts .latches) (g .counts .rows)
 ready g marks s w =
     record {
       some = s .rows .some;
@@ -95,13 +95,14 @@ pub record Parts (g : Lent) (ids flags marks stack : List ℕ) : Type 0 where
   pub flags-part : length (take (g .counts .rows) flags) ≡ g .counts .rows
   pub marks-part : length (take (g .counts .rows) marks) ≡ g .counts .rows
   pub stack-part : length (take (g .counts .rows) stack) ≡ g .counts .rows
-  pub known : Ready (g .rows) (g .latches) (g .counts .latches) (length (take (g .counts .rows) flags))
+  pub known : CoiReady (g .rows) (g .latches) (g .counts .latches) (length (take (g .counts .rows) flags))
   pub ids-used : every (usedRow (length (take (g .counts .rows) flags))) ids ≡ true
   pub zeros : take (g .counts .rows) marks ≡ replicate (length (take (g .counts .rows) flags)) 0
   pub same-long : length (take (g .counts .rows) stack) ≡ length (take (g .counts .rows) flags)
 
 -- ---- the call: a is the answer, `after` are the marks, and b says whether it is 1
-module _ (g : Lent) (ids flags marks stack : List ℕ) (a : Answer) {after : List ℕ} (seen : checkSeen a after ≡ coiChecked g ids (length flags) (length stack) marks) {b : Bool} (sizes : b ≡ eqb (told a .number) 1) where
+module _ (g : Lent) (ids flags marks stack : List ℕ) (a : Answer) {after : List ℕ} (seen : checkSeen a after ≡ coiChecked g ids (length flags) (length stack) marks) {b : Bool}
+    (sizes : b ≡ eqb (told a .number) 1) where
   abbrev number : ℕ
   number = coiChecked g ids (length flags) (length stack) marks .given .number
 

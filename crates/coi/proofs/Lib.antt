@@ -3,4 +3,4 @@ pub mod Walking
 pub mod Linking
 pub mod Call
 pub mod Searching
-pub mod Reaching
+pub mod Meaning

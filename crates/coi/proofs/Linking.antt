@@ -14,9 +14,9 @@ use lib.Dec.{eqb}
 use borrow.Author.Tests.{eqb-true, eqb-false}
 use Rattle.graph.specs.Latches.{latchAt}
 use Rattle.graph.specs.Check.{cleared}
-use Rattle.roots.proofs.Flagging.{cleared-all, zero-at}
+use Rattle.root_marks.proofs.Flagging.{cleared-all, zero-at}
 use Rattle.coi.specs.Coi.{latchOf, stepsAt, steps, searched}
-use Rattle.coi.specs.Walk.{Links, stepsBy, Known, Ready}
+use Rattle.coi.specs.Steps.{Links, stepsBy, Known, CoiReady}
 
 module _ (latches : List ℕ) where
   pub links-none : (marks : List ℕ) (n : ℕ) → marks ≡ replicate n 0 → Links latches 0 marks
@@ -78,7 +78,7 @@ module _ (latches : List ℕ) where
       go false e before (inr m) = before m
 
 module _ (rows latches : List ℕ) (n : ℕ) (marks : List ℕ) (h : Links latches n marks) where
-  pub known : (used : ℕ) → Ready rows latches n used → length marks ≡ used → Known rows latches marks used
+  pub known : (used : ℕ) → CoiReady rows latches n used → length marks ≡ used → Known rows latches marks used
   known used r e =
       record {
         some = r .some;

@@ -11,11 +11,11 @@ use lib.Seq.{getD-set-same}
 use borrow.Author.Tests.{lt-ltb}
 use Rattle.edge.proofs.Tests.{both-true}
 use Rattle.rows.specs.Sizes.{maxRows}
-use Rattle.roots.specs.Arguments.{every}
-use Rattle.roots.specs.Flags.{Flagged}
-use Rattle.roots.proofs.Flagging.{Bits, set-keeps, set-cases, set-bits, zero-bits, none-flagged}
+use Rattle.root_marks.specs.Arguments.{every}
+use Rattle.root_marks.specs.Flags.{Flagged}
+use Rattle.root_marks.proofs.Flagging.{Bits, set-keeps, set-cases, set-bits, zero-bits, none-flagged}
 use Rattle.coi.specs.Coi.{Work, work, visited, visitedAll, drained, searched, usedRow}
-use Rattle.coi.specs.Walk.{turnsLeft, Going}
+use Rattle.coi.specs.Steps.{turnsLeft, Going}
 use Rattle.coi.proofs.Visiting.{unflagged-zero, visit-elim, visit-going, first-used, visits-going, visits-turns, empty-going}
 
 -- ---- rows of a list
@@ -51,14 +51,13 @@ record One (j : ℕ) (w v : Work) : Type 0 where
 
 one : (j : ℕ) (w : Work) → j < length (w .flags) → One j w (visited j w)
 one j w l =
-    visit-elim j w (λ v. One j w v)
-    (λ m. record { keeps = λ i f. f; waits = λ i o. o; there = m; new = λ i f. inl f; older = λ i o. inl o; bits = λ b. b })
-    (λ h.
-    record {
+    visit-elim j w (λ v. One j w v) (λ m. record { keeps = λ i f. f; waits = λ i o. o; there = m; new = λ i f. inl f; older = λ i o. inl o; bits = λ b. b })
+    (λ h. record {
       keeps = λ i f. set-keeps (w .flags) j i f;
       waits = λ i o. List·Memᴰ·tail o;
       there = getD-set-same (w .flags) j 1 0 l;
-      new = λ i f. ⊎-elim (λ (p : (i ≡ j) × Flagged (set (w .flags) j 1) i). inr (p .0, List·Memᴰ·head (p .0))) (λ (e : getD (set (w .flags) j 1) i 0 ≡ getD (w .flags) i 0). inl (sym e ∙ f)) (set-cases (w .flags) j i);
+      new = λ i f. ⊎-elim (λ (p : (i ≡ j) × Flagged (set (w .flags) j 1) i). inr (p .0, List·Memᴰ·head (p .0))) (λ (e : getD (set (w .flags) j 1) i 0 ≡ getD (w .flags) i 0). inl (sym e ∙ f))
+          (set-cases (w .flags) j i);
       older = λ i o. ⊎-elim (λ (e : i ≡ j). inr e) (λ (m : On i (w .waiting)). inl m) (List·Memᴰ·cases-cons o);
       bits = λ b. set-bits (w .flags) j b;
     })
@@ -78,8 +77,11 @@ then {j} {js} {w} {v} {u} p q =
       keeps = λ i f. q .keeps i (p .keeps i f);
       waits = λ i o. q .waits i (p .waits i o);
       all = λ i o. ⊎-elim (λ (e : i ≡ j). rw e (q .keeps j (p .there))) (λ (m : On i js). q .all i m) (List·Memᴰ·cases-cons o);
-      new = λ i f. ⊎-elim (λ (g : Flagged (v .flags) i). ⊎-elim (λ (h : Flagged (w .flags) i). inl h) (λ (s : (i ≡ j) × On i (v .waiting)). inr (List·Memᴰ·head (s .0), q .waits i (s .1))) (p .new i g)) (λ (t : On i js × On i (u .waiting)). inr (List·Memᴰ·tail (t .0), t .1)) (q .new i f);
-      older = λ i o. ⊎-elim (λ (m : On i (v .waiting)). ⊎-elim (λ (n : On i (w .waiting)). inl n) (λ (e : i ≡ j). inr (List·Memᴰ·head e)) (p .older i m)) (λ (t : On i js). inr (List·Memᴰ·tail t)) (q .older i o);
+      new = λ i f. ⊎-elim
+          (λ (g : Flagged (v .flags) i). ⊎-elim (λ (h : Flagged (w .flags) i). inl h) (λ (s : (i ≡ j) × On i (v .waiting)). inr (List·Memᴰ·head (s .0), q .waits i (s .1))) (p .new i g))
+          (λ (t : On i js × On i (u .waiting)). inr (List·Memᴰ·tail (t .0), t .1)) (q .new i f);
+      older = λ i o. ⊎-elim (λ (m : On i (v .waiting)). ⊎-elim (λ (n : On i (w .waiting)). inl n) (λ (e : i ≡ j). inr (List·Memᴰ·head e)) (p .older i m)) (λ (t : On i js). inr (List·Memᴰ·tail t))
+          (q .older i o);
       bits = λ b. q .bits (p .bits b);
     }
 
@@ -145,7 +147,8 @@ module _ (used : ℕ) where
           record {
             going = visits-going used used (next i) (work f waiting) (fit i i-used) rest;
             bits = made .bits (s .bits);
-            only = λ k m. ⊎-elim (λ (h : Flagged f k). s .only k h) (λ (t : On k (next i) × On k (after .waiting)). step i k i-used (s .only i (s .waiting-flagged i (List·Memᴰ·head refl))) (t .0)) (made .new k m);
+            only = λ k m. ⊎-elim (λ (h : Flagged f k). s .only k h) (λ (t : On k (next i) × On k (after .waiting)). step i k i-used (s .only i (s .waiting-flagged i (List·Memᴰ·head refl))) (t .0))
+                (made .new k m);
             waiting-flagged = λ k o. ⊎-elim (λ (m : On k waiting). made .keeps k (s .waiting-flagged k (List·Memᴰ·tail m))) (λ (m : On k (next i)). made .all k m) (made .older k o);
             at = λ k m. ⊎-elim (λ (h : Flagged f k). before k (s .at k h)) (λ (t : On k (next i) × On k (after .waiting)). inl (t .1)) (made .new k m);
           }

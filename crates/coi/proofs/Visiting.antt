@@ -13,10 +13,10 @@ use lib.Dec.{eqb}
 use borrow.Author.Tests.{eq-eqb, ne-eqb, ltb-true, lt-ltb}
 use Rattle.edge.proofs.Tests.{both, both-true}
 use Rattle.rows.specs.Sizes.{maxRows}
-use Rattle.roots.specs.Arguments.{every}
-use Rattle.roots.specs.Flags.{Flagged}
+use Rattle.root_marks.specs.Arguments.{every}
+use Rattle.root_marks.specs.Flags.{Flagged}
 use Rattle.coi.specs.Coi.{Work, work, visited, visitedAll, usedRow}
-use Rattle.coi.specs.Walk.{stacked, workOf, unflagged, turnsLeft, Going}
+use Rattle.coi.specs.Steps.{stacked, workOf, unflagged, turnsLeft, Going}
 
 -- ---- the stack
 pub stacked-long : (s : List ℕ) (n : ℕ) → length (stacked s n) ≡ n

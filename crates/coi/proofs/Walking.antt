@@ -16,9 +16,9 @@ use Rattle.rows.specs.Sizes.{maxRows}
 use Rattle.rows.specs.Rows.{word0, word1, gateAt}
 use Rattle.rows.proofs.Laws.{gate-below}
 use Rattle.graph.specs.Latches.{latchAt}
-use Rattle.roots.specs.Arguments.{every}
+use Rattle.root_marks.specs.Arguments.{every}
 use Rattle.coi.specs.Coi.{crossed, stepsAt, Work, work, visited, visitedAll, drained, searched, usedRow}
-use Rattle.coi.specs.Walk.{stacked, workOf, turnsLeft, Going, stepsBy, Known}
+use Rattle.coi.specs.Steps.{stacked, workOf, turnsLeft, Going, stepsBy, Known}
 use Rattle.coi.proofs.Visiting.{stacked-long, stacked-top, unflagged-zero, first-used, visits-going, visits-turns, empty-going}
 
 -- ---- the ids, one after the other
@@ -81,7 +81,8 @@ module _ (used space : ℕ) (f s : List ℕ) (n : ℕ) (l : 0 < n) (g : Going us
         rows-used = first-used used space (getD s (n - 1) 0) (stacked s (n - 1)) split .1;
       }
 
-  module _ (next : ℕ → List ℕ) (fit : (i : ℕ) → i < used → every (usedRow used) (next i) ≡ true) (f′ s′ : List ℕ) (n′ : ℕ) (e : workOf f′ s′ n′ ≡ visitedAll (next (getD s (n - 1) 0)) (workOf f s (n - 1))) where
+  module _ (next : ℕ → List ℕ) (fit : (i : ℕ) → i < used → every (usedRow used) (next i) ≡ true) (f′ s′ : List ℕ) (n′ : ℕ)
+      (e : workOf f′ s′ n′ ≡ visitedAll (next (getD s (n - 1) 0)) (workOf f s (n - 1))) where
     pub turn-going : Going used space (workOf f′ s′ n′)
     turn-going = subst (λ (w : Work). Going used space w) (sym e) (visits-going used space (next (getD s (n - 1) 0)) (workOf f s (n - 1)) (fit _ top-used) rest-going)
 

@@ -13,7 +13,7 @@ use Rattle.rows.specs.Sizes.{maxEntries}
 use Rattle.rows.specs.Reading.{ifDone}
 use Rattle.graph.specs.Graph.{Lent}
 use Rattle.graph.specs.Check.{cleared, CheckSeen}
-use Rattle.roots.specs.Arguments.{every, argsCall}
+use Rattle.root_marks.specs.Arguments.{every, argsCall}
 use Rattle.coi.specs.Coi.{coiOf, usedRow}
 
 -- no answer 1 of the call's own: "work marks, flags .. shorter than the used rows", "at most 65,536 entries a list"; the stack is a second slice of work marks

@@ -1,4 +1,4 @@
 pub mod Coi
-pub mod Walk
 pub mod Call
 pub mod Meaning
+pub mod Steps

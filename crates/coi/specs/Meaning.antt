@@ -13,8 +13,8 @@ use Rattle.graph.specs.Latches.{latchAt}
 use Rattle.graph.specs.Graph.{Lent, Sized}
 use Rattle.graph.specs.Check.{cleared}
 use Rattle.graph.specs.WellFormed.{WellFormed}
-use Rattle.roots.specs.Flags.{Flagged, Flags, Closed, AgreeOn}
-use Rattle.roots.specs.Arguments.{every}
+use Rattle.root_marks.specs.Flags.{Flagged, Flags, Closed, AgreeOn}
+use Rattle.root_marks.specs.Arguments.{every}
 use Rattle.graph.specs.Exactly.{Answers}
 use Rattle.coi.specs.Coi.{usedRow}
 use Rattle.coi.specs.Call.{coiRoom, coiCall}

@@ -9,9 +9,9 @@ ghost use lib.Dec.{eqb};
 ghost use Rattle.edge.specs.Answers.{told};
 ghost use Rattle.graph.specs.Graph.{lent};
 ghost use Rattle.graph.specs.Check.{checkSeen};
-ghost use Rattle.roots.specs.Arguments.{every};
+ghost use Rattle.root_marks.specs.Arguments.{every};
 ghost use Rattle.coi.specs.Coi.{steps, searched, usedRow};
-ghost use Rattle.coi.specs.Walk.{Ready};
+ghost use Rattle.coi.specs.Steps.{CoiReady};
 ghost use Rattle.coi.specs.Call.{coiChecked, coiSeen, coiCall};
 use edge::Answer;
 use graph::Counts;
@@ -92,7 +92,7 @@ fn write(
     marks: &mut [u32],
     stack: &mut [u32],
 )
-    requires { ⌜ Ready (now rows) (now latches) n (length (now flags)) ⌝ }
+    requires { ⌜ CoiReady (now rows) (now latches) n (length (now flags)) ⌝ }
     requires { ⌜ every (usedRow (length (now flags))) (now ids) ≡ true ⌝ }
     requires { ⌜ now marks ≡ replicate (length (now flags)) 0 ⌝ }
     requires { ⌜ length (now stack) ≡ length (now flags) ⌝ }

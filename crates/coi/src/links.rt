@@ -1,7 +1,7 @@
 // Which latch has a row as its input: 1 + the latch, in the row's mark.
 ghost use mathlib.Core.Path.{_≡_};
 ghost use lib.ListN.{length, replicate};
-ghost use Rattle.coi.specs.Walk.{Links, LatchesKnown};
+ghost use Rattle.coi.specs.Steps.{Links, LatchesKnown};
 use graph::latch::latch_at;
 
 pub fn link(latches: &[u32], n: usize, marks: &mut [u32])

@@ -17,10 +17,10 @@ use Rattle.rows.specs.Sizes.{maxEntries}
 use Rattle.graph.specs.Leaves.{usedEdge}
 use Rattle.graph.specs.Graph.{Lent}
 use Rattle.graph.specs.Check.{CheckSeen, checkSeen}
-use Rattle.roots.specs.Arguments.{every}
+use Rattle.root_marks.specs.Arguments.{every}
 use Rattle.cone.specs.Cone.{coneOf}
 use Rattle.cone.specs.Call.{coneRoom, coneChecked, coneSeen, coneCall}
-use Rattle.roots.proofs.Arguments.{Accepted, args-accepted}
+use Rattle.root_marks.proofs.Arguments.{Accepted, args-accepted}
 
 abbrev pub ConeAccepted : Lent → List ℕ → ℕ → ℕ → Type 0
 ConeAccepted g roots flags marks = Accepted (coneRoom g roots flags) (every (usedEdge (g .counts .rows)) roots) g marks
@@ -36,14 +36,15 @@ own-sizes g roots flags h =
     (leb-true _ _ (t .0), leb-true _ _ (t .1))
 
 -- what the flags are written from, where the call is accepted
-pub record Ready (g : Lent) (roots flags : List ℕ) : Type 0 where
+pub record ConeReady (g : Lent) (roots flags : List ℕ) : Type 0 where
   pub long : g .counts .rows ≤ length flags
   pub part : length (take (g .counts .rows) flags) ≡ g .counts .rows
   pub rows : 2 * length (take (g .counts .rows) flags) ≤ length (g .rows)
   pub used : every (usedEdge (length (take (g .counts .rows) flags))) roots ≡ true
 
 -- a is the answer, `after` are the marks, and d says whether it is done
-module _ (g : Lent) (roots flags marks : List ℕ) (a : Answer) {after : List ℕ} (seen : checkSeen a after ≡ coneChecked g roots (length flags) marks) {d : Bool} (test : d ≡ eqb (told a .number) 0) where
+module _ (g : Lent) (roots flags marks : List ℕ) (a : Answer) {after : List ℕ} (seen : checkSeen a after ≡ coneChecked g roots (length flags) marks) {d : Bool}
+    (test : d ≡ eqb (told a .number) 0) where
   given : told a ≡ coneChecked g roots (length flags) marks .given
   given = ap (λ (s : CheckSeen). s .given) seen
 
@@ -58,7 +59,7 @@ module _ (g : Lent) (roots flags marks : List ℕ) (a : Answer) {after : List �
     done : eqb (coneChecked g roots (length flags) marks .given .number) 0 ≡ true
     done = test-done given test h
 
-    pub ready : Ready g roots flags
+    pub ready : ConeReady g roots flags
     ready =
         let t = cone-accepted g roots (length flags) marks (eqb-true (coneChecked g roots (length flags) marks .given .number) 0 done) in
         let l = own-sizes g roots (length flags) (t .roomy) .0 in

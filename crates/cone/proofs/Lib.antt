@@ -1,3 +1,3 @@
 pub mod Marking
 pub mod Call
-pub mod Cone
+pub mod Meaning

@@ -13,10 +13,10 @@ use Rattle.rows.specs.Rows.{word0, word1, isGate, gateAt}
 use Rattle.rows.proofs.Laws.{gate-below}
 use Rattle.graph.specs.Leaves.{usedEdge}
 use Rattle.graph.specs.Check.{cleared}
-use Rattle.roots.specs.Arguments.{every}
-use Rattle.roots.specs.Marking.{markEdges}
-use Rattle.roots.proofs.Marking.{edges-long}
-use Rattle.roots.proofs.Flagging.{cleared-all}
+use Rattle.root_marks.specs.Arguments.{every}
+use Rattle.root_marks.specs.Marking.{markEdges}
+use Rattle.root_marks.proofs.Marking.{edges-long}
+use Rattle.root_marks.proofs.Flagging.{cleared-all}
 use Rattle.cone.specs.Cone.{markRow, markBelow, coneOf}
 
 -- ---- one row

@@ -14,7 +14,7 @@ use Rattle.rows.specs.Reading.{ifDone}
 use Rattle.graph.specs.Leaves.{usedEdge}
 use Rattle.graph.specs.Graph.{Lent}
 use Rattle.graph.specs.Check.{CheckSeen}
-use Rattle.roots.specs.Arguments.{every, argsCall}
+use Rattle.root_marks.specs.Arguments.{every, argsCall}
 use Rattle.cone.specs.Cone.{coneOf}
 
 -- no answer 1 of the call's own: "flags .. shorter than the used rows", "at most 65,536 entries a list"

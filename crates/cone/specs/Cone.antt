@@ -7,7 +7,7 @@ use lib.ListN.{getD, set, replicate}
 use lib.Dec.{eqb}
 use Rattle.edge.specs.Edges.{idOf}
 use Rattle.rows.specs.Rows.{word0, word1, gateAt}
-use Rattle.roots.specs.Marking.{markEdges}
+use Rattle.root_marks.specs.Marking.{markEdges}
 
 -- where row i is flagged and is a gate, both fanins are flagged
 unfoldable pub markRow : List ℕ → ℕ → List ℕ → List ℕ

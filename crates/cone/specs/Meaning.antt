@@ -12,8 +12,8 @@ use Rattle.rows.specs.Value.{value, InCone}
 use Rattle.graph.specs.Leaves.{usedEdge}
 use Rattle.graph.specs.Graph.{Lent, Sized}
 use Rattle.graph.specs.WellFormed.{WellFormed}
-use Rattle.roots.specs.Flags.{Flagged, Flags, Closed, AgreeOn}
-use Rattle.roots.specs.Arguments.{every}
+use Rattle.root_marks.specs.Flags.{Flagged, Flags, Closed, AgreeOn}
+use Rattle.root_marks.specs.Arguments.{every}
 use Rattle.graph.specs.Exactly.{Answers}
 use Rattle.cone.specs.Call.{coneRoom, coneCall}
 

@@ -8,15 +8,15 @@ ghost use lib.ListN.{length};
 ghost use Rattle.graph.specs.Leaves.{usedEdge};
 ghost use Rattle.graph.specs.Graph.{lent};
 ghost use Rattle.graph.specs.Check.{checkSeen};
-ghost use Rattle.roots.specs.Arguments.{every};
+ghost use Rattle.root_marks.specs.Arguments.{every};
 ghost use Rattle.cone.specs.Cone.{coneOf};
 ghost use Rattle.cone.specs.Call.{coneChecked, coneSeen, coneCall};
 use below::mark_below;
 use edge::Answer;
 use graph::Counts;
 use graph::marks::clear;
-use roots::all_used;
-use roots::mark_edges;
+use root_marks::all_used;
+use root_marks::mark_edges;
 use rows::sizes::MAX_ENTRIES;
 
 // Answers 1 to 4, where so many flags are lent.

@@ -16,11 +16,13 @@ use Rattle.rows.proofs.Laws.{gate-below}
 use Rattle.graph.specs.declared.Counts.{Counts}
 use Rattle.graph.specs.Latches.{latchAt}
 use Rattle.graph.specs.Graph.{Lent}
-use Rattle.renumber.specs.Room.{hasRoom, Room}
-use Rattle.renumber.proofs.Fitting.{roomy, room-true}
+use Rattle.output.specs.Room.{fitsIn, Fits}
+use Rattle.output.proofs.Fitting.{fits-known, fits-true}
 use Rattle.frame.specs.Map.{startMap}
-use Rattle.frame.specs.Frame.{Frame, frame, frameRow, frameRows, frameOf, raised, needOf, newLeaf, newLeaves, mostOf}
-use Rattle.frame.specs.Call.{Bounded, FrameReady}
+use Rattle.frame.specs.Frame.{Frame, frame, frameRow, frameRows, frameOf, raised}
+use Rattle.frame.specs.Steps.{needOf, newLeaf, newLeaves, mostOf}
+use Rattle.frame.specs.Steps.{Bounded}
+use Rattle.frame.specs.Call.{FrameReady}
 use Rattle.frame.proofs.Mapping.{start-length}
 use Rattle.frame.proofs.Framing.{gateOf, byKind, kind-of, turn, row-stays}
 use Rattle.frame.proofs.Ready.{as-many, same-input, part-long}
@@ -142,23 +144,23 @@ frame-most from (suc n) s p z r =
     (omega (arith, h .0, u), omega (arith, h .1, v, w))
 
 -- ---- the need is within the most
-module _ (a : Lent) (from : List ℕ) (n : Counts) (some : 0 < n .rows) (b : Bounded (a .latches) (a .counts .latches) from (n .rows)) where
+module _ (at : Counts) (latches from : List ℕ) (n : Counts) (some : 0 < n .rows) (b : Bounded latches (at .latches) from (n .rows)) where
   abbrev need : Counts
-  need = needOf (a .counts) (a .latches) from n
+  need = needOf at latches from n
 
   abbrev most : Counts
-  most = mostOf (a .counts) (a .latches) from n
+  most = mostOf at latches from n
 
   within : (need .rows ≤ most .rows) × (need .inputs ≤ most .inputs)
   unfolding frameOf raised
   within =
-      let s = frame [] (a .counts .rows) [] (a .counts .inputs) (startMap (a .latches) (a .counts .latches) (n .rows)) in
-      let z = start-zero (a .latches) (a .counts .latches) (n .rows) some (λ j l e. absurd (omega (arith, b .behind j l, e))) in
+      let s = frame [] (at .rows) [] (at .inputs) (startMap latches (at .latches) (n .rows)) in
+      let z = start-zero latches (at .latches) (n .rows) some (λ j l e. absurd (omega (arith, b .behind j l, e))) in
       frame-most from (n .rows) s some z (b .rows)
 
-  room-kept : Room a most → Room a need
+  room-kept : (room : Counts) → Fits room most → Fits room need
   unfolding raised
-  room-kept r =
+  room-kept room r =
       record {
         rows = omega (arith, within .0, r .rows);
         inputs = omega (arith, within .1, r .inputs);
@@ -171,8 +173,8 @@ module _ (a : Lent) (from : List ℕ) (n : Counts) (some : 0 < n .rows) (b : Bou
         fairness = r .fairness;
       }
 
-  pub most-fits : {m : Counts} → m ≡ most → hasRoom a m ≡ true → true ≡ hasRoom a need
-  most-fits e h = sym (room-true a need (room-kept (roomy a most (ap (hasRoom a) (sym e) ∙ h))))
+  pub most-fits : (room : Counts) {m : Counts} → m ≡ most → fitsIn room m ≡ true → true ≡ fitsIn room need
+  most-fits room e h = sym (fits-true room need (room-kept room (fits-known room most (ap (fitsIn room) (sym e) ∙ h))))
 
 -- ---- the most, as it is counted: `map` is the map at the start
 pub most-told : (at : Counts) (latches from : List ℕ) (n : Counts) (marks : List ℕ) → n .rows ≤ length marks → {map part : List ℕ} {leaves : ℕ} {r : Counts}

@@ -142,11 +142,9 @@ module _ (from : List ℕ) (i : ℕ) (s : Frame) (some : 0 < s .used) (has : i <
           )
       go false g false h room free = (
         extends-none s some,
-        λ x l.
-            ⊎-elim
-            (λ (v : (i ≤ x) × (getD (s .map) x 0 ≡ none)). ⊎-elim (λ (z : i ≡ x). absurd (eqb-false (getD (s .map) i 0) none h (rw (← z) at (v .1)))) (λ (z : i < x). inl (omega arith, v .1)) (eq-or-lt-of-le (v .0)))
-            (λ v. inr v)
-            (sound x l),
+        λ x l. ⊎-elim
+            (λ (v : (i ≤ x) × (getD (s .map) x 0 ≡ none)). ⊎-elim (λ (z : i ≡ x). absurd (eqb-false (getD (s .map) i 0) none h (rw (← z) at (v .1)))) (λ (z : i < x). inl (omega arith, v .1))
+            (eq-or-lt-of-le (v .0))) (λ v. inr v) (sound x l),
       )
 
 -- ---- all rows
@@ -158,8 +156,9 @@ rows-more from (suc n) i s =
     let r = rows-more from n (i + 1) (frameRow from i s) in
     (omega (arith, t .more, r .0), omega (arith, t .listed-more, r .1))
 
-pub rows-step : (from : List ℕ) (n i k : ℕ) (s : Frame) → i + n ≡ k → 0 < s .used → k ≤ length (s .map) → MapUsed i s → frameRows from i n s .used ≤ rowsLent (s .rows) → frameRows from i n s .listed ≤ length (s .inputs)
-    → Extends s (frameRows from i n s) × MapUsed k (frameRows from i n s)
+pub rows-step :
+    (from : List ℕ) (n i k : ℕ) (s : Frame) → i + n ≡ k → 0 < s .used → k ≤ length (s .map) → MapUsed i s → frameRows from i n s .used ≤ rowsLent (s .rows) → frameRows from i n s .listed ≤
+    length (s .inputs) → Extends s (frameRows from i n s) × MapUsed k (frameRows from i n s)
 unfolding frameRows
 rows-step from zero i k s e some long sound room free = let q : i ≡ k = omega arith in (extends-none s some, rw q at sound)
 rows-step from (suc n) i k s e some long sound room free =
@@ -193,5 +192,5 @@ module _ (used : ℕ) (latches : List ℕ) where
   unfolding startMap
   start-used n rows some u x l =
       nexts-entry n (set (replicate rows none) 0 0) u
-      (λ y k. set-entry (replicate rows none) 0 0 (inr some) (λ z m. inl (getD-replicate {A = ℕ} rows z none 0 (omega (arith, length-replicate {A = ℕ} rows none)))) y (omega (arith, length-set (replicate rows none) 0 0)))
-      x (omega (arith, nexts-mapped-length latches n (set (replicate rows none) 0 0)))
+      (λ y k. set-entry (replicate rows none) 0 0 (inr some) (λ z m. inl (getD-replicate {A = ℕ} rows z none 0 (omega (arith, length-replicate {A = ℕ} rows none)))) y
+      (omega (arith, length-set (replicate rows none) 0 0))) x (omega (arith, nexts-mapped-length latches n (set (replicate rows none) 0 0)))

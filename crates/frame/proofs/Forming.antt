@@ -13,19 +13,21 @@ use Rattle.edge.proofs.Tests.{lt-or-le}
 use Rattle.rows.specs.Sizes.{rowsLent}
 use Rattle.rows.specs.Rows.{none, leafAt, AllRows}
 use Rattle.graph.specs.declared.latch.Latch.{Latch}
-use Rattle.graph.specs.Latches.{latchAt, latchInputs}
+use Rattle.graph.specs.Latches.{withNext, latchAt, latchInputs}
 use Rattle.graph.specs.Graph.{Lent, Sized}
 use Rattle.graph.specs.WellFormed.{UsedLeaf, listed, WellFormed}
 use Rattle.graph.proofs.Listed.{all-long, input-at, latch-at}
+use Rattle.graph.proofs.Latches.{same-inputs}
 use Rattle.gates.proofs.Growing.{signed-id}
-use Rattle.renumber.specs.Writing.{written}
+use Rattle.output.specs.Writing.{written}
 use Rattle.renumber.specs.Renumber.{endsOf}
-use Rattle.renumber.proofs.Writing.{written-length, written-before, written-at}
+use Rattle.output.proofs.Writing.{written-length, written-before, written-at}
 use Rattle.frame.specs.Map.{mapped, startMap, mappedOf, nextsSet, listsGrown}
 use Rattle.frame.specs.Frame.{Frame, frame, frameOf, raised, frameBetween, framed}
-use Rattle.frame.specs.Call.{SameStart, FrameReady, FrameRoom}
+use Rattle.frame.specs.Call.{SameStart, FrameReady}
+use Rattle.frame.specs.Steps.{FrameRoom}
 use Rattle.frame.specs.Meaning.{Extends, MapUsed}
-use Rattle.frame.proofs.Mapping.{nexts-set-length, start-length, withNext, nexts-at, same-inputs, grown-used}
+use Rattle.frame.proofs.Mapping.{nexts-set-length, start-length, nexts-at, grown-used}
 use Rattle.frame.proofs.Ready.{as-many, frame-map-long}
 use Rattle.frame.proofs.Extending.{rows-step, start-used}
 
@@ -55,9 +57,10 @@ module _ (a b : Lent) (marks : ℕ) (r : FrameRoom a b marks) where
   steps : Extends start f × MapUsed (b .counts .rows) f
   unfolding frameOf
   steps =
-      rows-step (b .rows) (b .counts .rows) 0 (b .counts .rows) start (omega arith) (ready .target .rows .some) (omega (arith, start-length (a .latches) (a .counts .latches) (b .counts .rows)))
-      (λ x l. ⊎-elim (λ e. inl (omega arith, e)) (λ u. inr u) (start-used (a .counts .rows) (a .latches) (a .counts .latches) (b .counts .rows) (ready .target .rows .some) (ready .target-formed .nexts) x l))
-      rows-room inputs-room
+      rows-step (b .rows) (b .counts .rows) 0 (b .counts .rows) start (omega arith) (ready .target .rows .some)
+      (omega (arith, start-length (a .latches) (a .counts .latches) (b .counts .rows)))
+      (λ x l. ⊎-elim (λ e. inl (omega arith, e)) (λ u. inr u)
+      (start-used (a .counts .rows) (a .latches) (a .counts .latches) (b .counts .rows) (ready .target .rows .some) (ready .target-formed .nexts) x l)) rows-room inputs-room
 
   pub extends : Extends start f
   extends = steps .0
@@ -103,7 +106,7 @@ module _ (a b : Lent) (marks : ℕ) (r : FrameRoom a b marks) where
   abbrev latches′ : List ℕ
   latches′ = nextsSet (f .map) (a .latches) (b .latches) (b .counts .latches)
 
-  latch-there : (j : ℕ) → j < many → latchAt latches′ j ≡ withNext (f .map) (a .latches) (b .latches) j
+  latch-there : (j : ℕ) → j < many → latchAt latches′ j ≡ withNext (latchAt (a .latches) j) (mapped (f .map) (latchAt (b .latches) j .next))
   latch-there j l = nexts-at (f .map) (a .latches) (b .latches) (b .counts .latches) j (omega (arith, as-b, ready .target .latches .within)) (rw (sym as-b) l)
 
   inputs-stay : (j : ℕ) → j < many → latchAt latches′ j .input ≡ latchAt (a .latches) j .input
@@ -148,13 +151,10 @@ module _ (a b : Lent) (marks : ℕ) (r : FrameRoom a b marks) where
 
   old-below : (p : ℕ) → p < a .counts .inputs + many → getD (listed a) p 0 < a .counts .rows
   old-below p l =
-      ⊎-elim
-      (λ (h : p < a .counts .inputs). rw (input-at (a .inputs) (a .counts .inputs) (a .latches) many (ready .target .inputs .within) p h) (ready .target-formed .inputs p h .0))
-      (λ (h : a .counts .inputs ≤ p).
-      let e : p ≡ a .counts .inputs + (p - a .counts .inputs) = omega arith in
-      let k : p - a .counts .inputs < many = omega arith in
-      rw (ap (λ (x : ℕ). getD (listed a) x 0) e ∙ latch-at (a .inputs) (a .counts .inputs) (a .latches) many (ready .target .inputs .within) (p - a .counts .inputs) k) (ready .target-formed .latches (p - a .counts .inputs) k .0))
-      (lt-or-le p (a .counts .inputs))
+      ⊎-elim (λ (h : p < a .counts .inputs). rw (input-at (a .inputs) (a .counts .inputs) (a .latches) many (ready .target .inputs .within) p h) (ready .target-formed .inputs p h .0))
+      (λ (h : a .counts .inputs ≤ p). let e : p ≡ a .counts .inputs + (p - a .counts .inputs) = omega arith in let k : p - a .counts .inputs < many = omega arith in rw
+      (ap (λ (x : ℕ). getD (listed a) x 0) e ∙ latch-at (a .inputs) (a .counts .inputs) (a .latches) many (ready .target .inputs .within) (p - a .counts .inputs) k)
+      (ready .target-formed .latches (p - a .counts .inputs) k .0)) (lt-or-le p (a .counts .inputs))
 
   -- what is listed at a place: it was listed before, or it is a new input
   data Place (i : ℕ) : Type 0 where
@@ -163,7 +163,9 @@ module _ (a b : Lent) (marks : ℕ) (r : FrameRoom a b marks) where
     latch : f .listed ≤ i → Place i
 
   place : (i : ℕ) → Place i
-  place i = ⊎-elim (λ (h : i < a .counts .inputs). first h) (λ (h : a .counts .inputs ≤ i). ⊎-elim (λ (k : i < f .listed). new h k) (λ (k : f .listed ≤ i). latch k) (lt-or-le i (f .listed))) (lt-or-le i (a .counts .inputs))
+  place i =
+      ⊎-elim (λ (h : i < a .counts .inputs). first h) (λ (h : a .counts .inputs ≤ i). ⊎-elim (λ (k : i < f .listed). new h k) (λ (k : f .listed ≤ i). latch k) (lt-or-le i (f .listed)))
+      (lt-or-le i (a .counts .inputs))
 
   new-behind : (i : ℕ) → a .counts .inputs ≤ i → i < f .listed → a .counts .rows ≤ getD all i 0
   new-behind i h l = rw (at-input i l) (extends .new i h l .behind)
@@ -255,7 +257,8 @@ module _ (a b : Lent) (marks : ℕ) (r : FrameRoom a b marks) where
         once = λ i j h l. once i j h (omega (arith, long));
         nexts = nexts;
         inits = inits;
-        constraints = edges-used (a .constraints) (b .constraints) (a .counts .constraints) (b .counts .constraints) (r .room .constraints) (ready .target-formed .constraints) (ready .from-formed .constraints);
+        constraints = edges-used (a .constraints) (b .constraints) (a .counts .constraints) (b .counts .constraints) (r .room .constraints) (ready .target-formed .constraints)
+            (ready .from-formed .constraints);
         bads = edges-used (a .bads) (b .bads) (a .counts .bads) (b .counts .bads) (r .room .bads) (ready .target-formed .bads) (ready .from-formed .bads);
         outputs = edges-used (a .outputs) (b .outputs) (a .counts .outputs) (b .counts .outputs) (r .room .outputs) (ready .target-formed .outputs) (ready .from-formed .outputs);
         edges = edges-used (a .edges) (b .edges) (a .counts .edges) (b .counts .edges) (r .room .edges) (ready .target-formed .edges) (ready .from-formed .edges);

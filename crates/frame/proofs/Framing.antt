@@ -25,11 +25,15 @@ module _ (from : List ℕ) (i : ℕ) where
   first-gate r l =
       ⊎-elim
       (λ h. ⊎-elim
-      (λ z. absurd (omega (arith, l, eqb-true (word0 from i) falseWord (both {a = eqb i 0} {b = eqb (word0 from i) falseWord} (both {a = eqb i 0 && eqb (word0 from i) falseWord} {b = eqb (word1 from i) 0} z .0) .1))))
-      (λ z. absurd (omega (arith, l, eqb-true (word0 from i) none (both {a = ltb 0 i} {b = eqb (word0 from i) none} (both {a = ltb 0 i && eqb (word0 from i) none} {b = eqb (word1 from i) 0} z .0) .1))))
-      (either {a = isFalseRow i (word0 from i) (word1 from i)} h))
-      (λ k. k)
-      (either {a = isFalseRow i (word0 from i) (word1 from i) || isLeaf i (word0 from i) (word1 from i)} r)
+      (λ z. absurd
+      (omega (
+        arith,
+        l,
+        eqb-true (word0 from i) falseWord (both {a = eqb i 0} {b = eqb (word0 from i) falseWord} (both {a = eqb i 0 && eqb (word0 from i) falseWord} {b = eqb (word1 from i) 0} z .0) .1),
+      )))
+      (λ z. absurd
+      (omega (arith, l, eqb-true (word0 from i) none (both {a = ltb 0 i} {b = eqb (word0 from i) none} (both {a = ltb 0 i && eqb (word0 from i) none} {b = eqb (word1 from i) 0} z .0) .1))))
+      (either {a = isFalseRow i (word0 from i) (word1 from i)} h)) (λ k. k) (either {a = isFalseRow i (word0 from i) (word1 from i) || isLeaf i (word0 from i) (word1 from i)} r)
 
   pub else-no-gate : i ≤ maxRows → 2 * maxRows ≤ word0 from i → gateAt from i ≡ false
   unfolding isGate
@@ -101,7 +105,9 @@ pub record Same (s t : Frame) : Type 0 where
   pub listed : s .listed ≡ t .listed
   pub map : s .map ≡ t .map
 
-row-same : (from : List ℕ) (i : ℕ) (x y : List ℕ) (used : ℕ) (v w : List ℕ) (listed : ℕ) (map : List ℕ) → Same (frameRow from i (frame x used v listed map)) (frameRow from i (frame y used w listed map))
+row-same :
+    (from : List ℕ) (i : ℕ) (x y : List ℕ) (used : ℕ) (v w : List ℕ) (listed : ℕ) (map : List ℕ) → Same (frameRow from i (frame x used v listed map))
+    (frameRow from i (frame y used w listed map))
 unfolding frameRow
 row-same from i x y used v w listed map = go (gateAt from i) (eqb (getD map i 0) none)
   where

@@ -12,10 +12,10 @@ use Rattle.edge.specs.Edges.{idOf}
 use Rattle.edge.proofs.Tests.{lt-or-le}
 use Rattle.rows.specs.Rows.{none}
 use Rattle.graph.specs.declared.latch.Latch.{Latch}
-use Rattle.graph.specs.Latches.{latchWords, latchAt, latchSet, latchInputs}
-use Rattle.renumber.specs.Writing.{written}
-use Rattle.renumber.proofs.Writing.{latch-set-length, written-before, written-at}
-use Rattle.renumber.proofs.Entering.{latch-kept, latch-set-at}
+use Rattle.graph.specs.Latches.{latchWords, withNext, latchAt, latchSet}
+use Rattle.graph.proofs.Latches.{latch-set-length, latch-kept, latch-set-at}
+use Rattle.output.specs.Writing.{written}
+use Rattle.output.proofs.Writing.{written-before, written-at}
 use Rattle.frame.specs.Map.{mapped, nextsMapped, startMap, mappedOf, nextSet, nextsSet}
 
 -- a list that was filled up to its end
@@ -45,11 +45,12 @@ pub nexts-set-length : (map latches from : List ℕ) (n : ℕ) → length (nexts
 unfolding nextsSet nextSet
 nexts-set-length map latches from zero = refl
 nexts-set-length map latches from (suc n) =
-    latch-set-length (nextsSet map latches from n) n (record { input = latchAt (nextsSet map latches from n) n .input; next = mapped map (latchAt from n .next); init = latchAt (nextsSet map latches from n) n .init })
+    latch-set-length (nextsSet map latches from n) n (withNext (latchAt (nextsSet map latches from n) n) (mapped map (latchAt from n .next)))
     ∙ nexts-set-length map latches from n
 
-pub nexts-set-turn : (map latches from : List ℕ) (j : ℕ) {now after : List ℕ} {l f : Latch} {e : ℕ} → now ≡ nextsSet map latches from j → l ≡ latchAt now j → f ≡ latchAt from j → e ≡ mapped map (f .next)
-    → after ≡ latchSet now j (record { input = l .input; next = e; init = l .init }) → after ≡ nextsSet map latches from (j + 1)
+pub nexts-set-turn :
+    (map latches from : List ℕ) (j : ℕ) {now after : List ℕ} {l f : Latch} {e : ℕ} → now ≡ nextsSet map latches from j → l ≡ latchAt now j → f ≡ latchAt from j → e ≡ mapped map (f .next) →
+    after ≡ latchSet now j (withNext l e) → after ≡ nextsSet map latches from (j + 1)
 unfolding nextsSet nextSet
 nexts-set-turn map latches from j p q r s w = w ∙ rw (add-one, s, r, q, p)
 
@@ -60,17 +61,14 @@ started latches used e p q = e ∙ rw (p, q)
 
 -- ---- what stands there afterwards: the first n latches have another next, and nothing else changed
 module _ (map latches from : List ℕ) where
-  abbrev pub withNext : ℕ → Latch
-  withNext j = record { input = latchAt latches j .input; next = mapped map (latchAt from j .next); init = latchAt latches j .init }
-
   pub nexts-after : (n j : ℕ) → n ≤ j → latchAt (nextsSet map latches from n) j ≡ latchAt latches j
   unfolding nextsSet nextSet
   nexts-after zero j l = refl
   nexts-after (suc n) j l =
-      latch-kept (nextsSet map latches from n) n (record { input = latchAt (nextsSet map latches from n) n .input; next = mapped map (latchAt from n .next); init = latchAt (nextsSet map latches from n) n .init }) j (λ (e : j ≡ n). absurd (omega arith))
+      latch-kept (nextsSet map latches from n) n (withNext (latchAt (nextsSet map latches from n) n) (mapped map (latchAt from n .next))) j (λ (e : j ≡ n). absurd (omega arith))
       ∙ nexts-after n j (omega arith)
 
-  pub nexts-at : (n j : ℕ) → latchWords * n ≤ length latches → j < n → latchAt (nextsSet map latches from n) j ≡ withNext j
+  pub nexts-at : (n j : ℕ) → latchWords * n ≤ length latches → j < n → latchAt (nextsSet map latches from n) j ≡ withNext (latchAt latches j) (mapped map (latchAt from j .next))
   unfolding nextsSet nextSet
   nexts-at zero j r l = absurd (omega arith)
   nexts-at (suc n) j r l =
@@ -78,18 +76,12 @@ module _ (map latches from : List ℕ) where
       (λ (e : suc j ≡ suc n).
       let q : j ≡ n = omega arith in
       rw q
-      (latch-set-at (nextsSet map latches from n) n (record { input = latchAt (nextsSet map latches from n) n .input; next = mapped map (latchAt from n .next); init = latchAt (nextsSet map latches from n) n .init }) (omega (arith, nexts-set-length map latches from n))
-      ∙ ap (λ (l : Latch). record { input = l .input; next = mapped map (latchAt from n .next); init = l .init }) (nexts-after n n (omega arith))))
+      (latch-set-at (nextsSet map latches from n) n (withNext (latchAt (nextsSet map latches from n) n) (mapped map (latchAt from n .next))) (omega (arith, nexts-set-length map latches from n))
+      ∙ ap (λ (l : Latch). withNext l (mapped map (latchAt from n .next))) (nexts-after n n (omega arith))))
       (λ (h : suc j < suc n).
-      latch-kept (nextsSet map latches from n) n (record { input = latchAt (nextsSet map latches from n) n .input; next = mapped map (latchAt from n .next); init = latchAt (nextsSet map latches from n) n .init }) j (λ (e : j ≡ n). absurd (omega arith))
+      latch-kept (nextsSet map latches from n) n (withNext (latchAt (nextsSet map latches from n) n) (mapped map (latchAt from n .next))) j (λ (e : j ≡ n). absurd (omega arith))
       ∙ nexts-at n j (omega arith) (omega arith))
       (eq-or-lt-of-le l)
-
--- latches of the same inputs
-pub same-inputs : (x y : List ℕ) (n : ℕ) → ((j : ℕ) → j < n → latchAt x j .input ≡ latchAt y j .input) → latchInputs x n ≡ latchInputs y n
-unfolding latchInputs
-same-inputs x y zero h = refl
-same-inputs x y (suc n) h = rw (same-inputs x y n (λ j l. h j (omega arith)), h n (omega arith))
 
 -- ---- a list that grew by mapped edges
 module _ (map : List ℕ) (rows used : ℕ) (to : (e : ℕ) → idOf e < rows → idOf (mapped map e) < used) where

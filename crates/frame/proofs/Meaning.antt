@@ -6,12 +6,12 @@ use mathlib.Core.Path.{refl}
 use mathlib.Core.List.{List}
 use lib.ListN.{length}
 use Rattle.graph.specs.Graph.{Lent}
-use Rattle.renumber.specs.Writing.{written}
+use Rattle.output.specs.Writing.{written}
 use Rattle.renumber.specs.Renumber.{endsOf}
-use Rattle.renumber.proofs.Writing.{written-before, written-at}
+use Rattle.output.proofs.Writing.{written-before, written-at}
 use Rattle.frame.specs.Map.{mappedOf, listsGrown}
 use Rattle.frame.specs.Frame.{raised, frameBetween, framed}
-use Rattle.frame.specs.Call.{FrameRoom}
+use Rattle.frame.specs.Steps.{FrameRoom}
 use Rattle.frame.specs.Meaning.{Grew, FrameAdded}
 use Rattle.frame.proofs.Mapping.{nexts-at}
 use Rattle.frame.proofs.Ready.{as-many}

@@ -14,14 +14,17 @@ use Rattle.graph.specs.Latches.{latchAt, latchInputs}
 use Rattle.graph.specs.Graph.{Lent, Sized}
 use Rattle.graph.specs.Check.{cleared}
 use Rattle.graph.proofs.Listed.{inputs-long, latch-at}
-use Rattle.graph.proofs.Pairing.{cleared-fewer}
+use Rattle.two_graphs.proofs.Pair.{cleared-fewer}
 use Rattle.renumber.specs.Renumber.{Lists, listsOf, graphOf}
-use Rattle.renumber.specs.Room.{hasRoom, Room}
+use Rattle.output.specs.Room.{hasRoom, Room}
 use Rattle.renumber.proofs.Mapping.{lists-used}
-use Rattle.renumber.proofs.Fitting.{roomy}
-use Rattle.frame.specs.Map.{startMap, LatchesWithin, listsGrown, ListsReady}
-use Rattle.frame.specs.Frame.{Frame, frame, frameOf, frameRows, raised, needOf, frameBetween, framed, frameFits}
-use Rattle.frame.specs.Call.{Addable, SameStart, FrameReady, frameSeen, frameCall}
+use Rattle.output.proofs.Fitting.{roomy}
+use Rattle.frame.specs.Map.{startMap, listsGrown}
+use Rattle.frame.specs.Steps.{LatchesWithin, ListsReady}
+use Rattle.frame.specs.Frame.{Frame, frame, frameOf, frameRows, raised, frameBetween, framed, frameFits}
+use Rattle.frame.specs.Steps.{needOf}
+use Rattle.frame.specs.Steps.{Addable}
+use Rattle.frame.specs.Call.{SameStart, FrameReady, frameSeen, frameCall}
 use Rattle.frame.proofs.Mapping.{start-length}
 use Rattle.frame.proofs.Framing.{Same, rows-same, rows-map-long}
 
@@ -123,7 +126,8 @@ need-told at latches from n marks h {f} {r} e w =
     w ∙ ap (λ (x : Frame). raised at n (x .used) (x .listed)) q
 
 -- ---- the frame, written
-module _ (a b : Lent) (marks : List ℕ) (h : b .counts .rows ≤ length marks) {f : Frame} (e : f ≡ frameOf (a .rows) (a .inputs) (a .counts) (a .latches) (b .rows) (length (take (b .counts .rows) marks))) where
+module _ (a b : Lent) (marks : List ℕ) (h : b .counts .rows ≤ length marks) {f : Frame}
+    (e : f ≡ frameOf (a .rows) (a .inputs) (a .counts) (a .latches) (b .rows) (length (take (b .counts .rows) marks))) where
   between : f ≡ frameBetween a b
   between = e ∙ ap (frameOf (a .rows) (a .inputs) (a .counts) (a .latches) (b .rows)) (part-long (b .counts .rows) marks h)
 
@@ -139,7 +143,8 @@ module _ (a b : Lent) (marks : List ℕ) (h : b .counts .rows ≤ length marks) 
       rw (p, r) (ap (λ (x : Frame). graphOf (x .rows) (x .inputs) (listsGrown (x .map) (listsOf a) (a .counts) (listsOf b) (b .counts)) (raised (a .counts) (b .counts) (x .used) (x .listed))) between)
 
 -- ---- the step: `need` is what was counted, and `fits` says whether there is room for it
-module _ (a b : Lent) (marks : List ℕ) {need : Counts} (n : need ≡ needOf (a .counts) (a .latches) (b .rows) (b .counts)) {fits : Bool} (t : fits ≡ hasRoom a need) {after : List ℕ} (w : after ≡ cleared (b .counts .rows) marks) where
+module _ (a b : Lent) (marks : List ℕ) {need : Counts} (n : need ≡ needOf (a .counts) (a .latches) (b .rows) (b .counts)) {fits : Bool} (t : fits ≡ hasRoom a need) {after : List ℕ}
+    (w : after ≡ cleared (b .counts .rows) marks) where
   told : fits ≡ frameFits a b
   unfolding frameFits
   told = t ∙ ap (hasRoom a) (n ∙ need-same a b)

@@ -29,8 +29,9 @@ use Rattle.gates.specs.Gates.{state}
 use Rattle.gates.proofs.Meaning.{grows-value, grows-edge, and-value}
 use Rattle.frame.specs.Map.{mapped, nextsMapped, startMap}
 use Rattle.frame.specs.Frame.{Frame, frame, gatePlaced, leafPlaced, frameRow, frameRows, frameOf, frameBetween}
-use Rattle.frame.specs.Call.{FrameReady, FrameRoom}
-use Rattle.frame.specs.Meaning.{MapUsed, NoLatch, NewInput, Maps, Holds, FrameMeans}
+use Rattle.frame.specs.Call.{FrameReady}
+use Rattle.frame.specs.Steps.{FrameRoom}
+use Rattle.frame.specs.Meaning.{MapUsed, NoLatch, NewInput, Maps, HoldsNexts, FrameMeans}
 use Rattle.frame.proofs.Mapping.{nexts-mapped-length, start-length}
 use Rattle.frame.proofs.Framing.{gateOf, byKind, kind-of, row-gate, row-leaf, row-stays, turn}
 use Rattle.frame.proofs.Ready.{as-many, same-input, latch-input, few}
@@ -59,10 +60,13 @@ mapped-same x y e h = rw h
 module _ (from : List ℕ) (leaf : ℕ → Bool) where
   -- a gate has the value of the AND of its mapped edges
   abbrev GateHolds : Frame → ℕ → Type 0
-  GateHolds t x = edgeValue (value (t .rows) leaf) (getD (t .map) x 0) ≡ edgeValue (value (t .rows) leaf) (mapped (t .map) (word0 from x)) && edgeValue (value (t .rows) leaf) (mapped (t .map) (word1 from x))
+  GateHolds t x =
+      edgeValue (value (t .rows) leaf) (getD (t .map) x 0) ≡ edgeValue (value (t .rows) leaf) (mapped (t .map) (word0 from x)) && edgeValue (value (t .rows) leaf)
+      (mapped (t .map) (word1 from x))
 
-  gate-here : (n i k : ℕ) (s : Frame) → i + suc n ≡ k → 0 < s .used → k ≤ length (s .map) → MapUsed i s → frameRows from i (suc n) s .used ≤ rowsLent (s .rows) → frameRows from i (suc n) s .listed ≤ length (s .inputs)
-      → gateAt from i ≡ true → GateHolds (frameRows from i (suc n) s) i
+  gate-here :
+      (n i k : ℕ) (s : Frame) → i + suc n ≡ k → 0 < s .used → k ≤ length (s .map) → MapUsed i s → frameRows from i (suc n) s .used ≤ rowsLent (s .rows) → frameRows from i (suc n) s .listed ≤
+      length (s .inputs) → gateAt from i ≡ true → GateHolds (frameRows from i (suc n) s) i
   unfolding frameRows
   gate-here n i k s e some long sound room free g =
       let t = turn from i s in
@@ -93,18 +97,18 @@ module _ (from : List ℕ) (leaf : ℕ → Bool) where
       (sym (grows-edge (s .rows) (s .used) (state (z .rows) (z .used) 0) (whole .rows) leaf (mapped (s .map) (word0 from i)) p0) ∙ ap (edgeValue (value (z .rows) leaf)) (sym a0))
       (sym (grows-edge (s .rows) (s .used) (state (z .rows) (z .used) 0) (whole .rows) leaf (mapped (s .map) (word1 from i)) p1) ∙ ap (edgeValue (value (z .rows) leaf)) (sym a1))))
 
-  gates-hold : (n i k : ℕ) (s : Frame) → i + n ≡ k → 0 < s .used → k ≤ length (s .map) → MapUsed i s → frameRows from i n s .used ≤ rowsLent (s .rows) → frameRows from i n s .listed ≤ length (s .inputs)
-      → (x : ℕ) → i ≤ x → x < k → gateAt from x ≡ true → GateHolds (frameRows from i n s) x
+  gates-hold :
+      (n i k : ℕ) (s : Frame) → i + n ≡ k → 0 < s .used → k ≤ length (s .map) → MapUsed i s → frameRows from i n s .used ≤ rowsLent (s .rows) → frameRows from i n s .listed ≤ length
+      (s .inputs) → (x : ℕ) → i ≤ x → x < k → gateAt from x ≡ true → GateHolds (frameRows from i n s) x
   unfolding frameRows
   gates-hold zero i k s e some long sound room free x h l g = absurd (omega arith)
   gates-hold (suc n) i k s e some long sound room free x h l g =
       let t = turn from i s in
       let m = rows-more from n (i + 1) (frameRow from i s) in
       let w = row-step from i s some (omega arith) sound (omega (arith, m .0)) (omega (arith, m .1)) in
-      ⊎-elim
-      (λ (q : i ≡ x). rw (← q) (gate-here n i k s e some long sound room free (rw (sym q) at g)))
-      (λ (q : i < x). gates-hold n (i + 1) k (frameRow from i s) (omega arith) (omega (arith, t .more)) (omega (arith, t .map-long)) (w .1) (rw (t .rows-long) room) (rw (t .inputs-long) free) x (omega arith) l g)
-      (eq-or-lt-of-le h)
+      ⊎-elim (λ (q : i ≡ x). rw (← q) (gate-here n i k s e some long sound room free (rw (sym q) at g)))
+      (λ (q : i < x). gates-hold n (i + 1) k (frameRow from i s) (omega arith) (omega (arith, t .more)) (omega (arith, t .map-long)) (w .1) (rw (t .rows-long) room)
+      (rw (t .inputs-long) free) x (omega arith) l g) (eq-or-lt-of-le h)
 
 -- a row that is no gate and is mapped already stays so
 mapped-stays : (from : List ℕ) (n i : ℕ) (s : Frame) (x : ℕ) → i ≤ x → gateAt from x ≡ false → (getD (s .map) x 0 ≡ none → ⊥) → getD (frameRows from i n s .map) x 0 ≡ getD (s .map) x 0
@@ -128,8 +132,10 @@ input-edge from n i s has g m =
     settled from n (i + 1) (frameRow from i s) i (omega arith) ∙ (ap (λ (f : Frame). getD (f .map) i 0) (sym p) ∙ getD-set-same (s .map) i (2 * s .used) 0 has)
 
 -- and so behind every edge that an earlier row is mapped to
-input-behind : (from : List ℕ) (n i k : ℕ) (s : Frame) → i + n ≡ k → 0 < s .used → k ≤ length (s .map) → MapUsed i s → frameRows from i n s .used ≤ rowsLent (s .rows) → frameRows from i n s .listed ≤ length (s .inputs)
-    → (x y : ℕ) → x < y → i ≤ y → y < k → gateAt from y ≡ false → getD (s .map) y 0 ≡ none → idOf (getD (frameRows from i n s .map) x 0) < idOf (getD (frameRows from i n s .map) y 0)
+input-behind :
+    (from : List ℕ) (n i k : ℕ) (s : Frame) → i + n ≡ k → 0 < s .used → k ≤ length (s .map) → MapUsed i s → frameRows from i n s .used ≤ rowsLent (s .rows) → frameRows from i n s .listed ≤
+    length (s .inputs) → (x y : ℕ) → x < y → i ≤ y → y < k → gateAt from y ≡ false → getD (s .map) y 0 ≡ none → idOf (getD (frameRows from i n s .map) x 0) < idOf
+    (getD (frameRows from i n s .map) y 0)
 unfolding frameRows
 input-behind from zero i k s e some long sound room free x y b h l g m = absurd (omega arith)
 input-behind from (suc n) i k s e some long sound room free x y b h l g m =
@@ -137,17 +143,15 @@ input-behind from (suc n) i k s e some long sound room free x y b h l g m =
     let more = rows-more from n (i + 1) (frameRow from i s) in
     let w = row-step from i s some (omega arith) sound (omega (arith, more .0)) (omega (arith, more .1)) in
     ⊎-elim
-    (λ (q : i ≡ y).
-    let c = input-edge from n i s (omega arith) (rw (sym q) at g) (rw (sym q) at m) in
-    let d = settled from (suc n) i s x (omega arith) in
-    rw (← q, c, d) (⊎-elim (λ (z : (i ≤ x) × (getD (s .map) x 0 ≡ none)). absurd (omega (arith, z .0))) (λ (z : idOf (getD (s .map) x 0) < s .used). omega arith) (sound x (omega arith))))
-    (λ (q : i < y).
-    input-behind from n (i + 1) k (frameRow from i s) (omega arith) (omega (arith, t .more)) (omega (arith, t .map-long)) (w .1) (rw (t .rows-long) room) (rw (t .inputs-long) free) x y b (omega arith) l g (row-settled from i s y (λ (z : y ≡ i). absurd (omega arith)) ∙ m))
-    (eq-or-lt-of-le h)
+    (λ (q : i ≡ y). let c = input-edge from n i s (omega arith) (rw (sym q) at g) (rw (sym q) at m) in let d = settled from (suc n) i s x (omega arith) in rw (← q, c, d)
+    (⊎-elim (λ (z : (i ≤ x) × (getD (s .map) x 0 ≡ none)). absurd (omega (arith, z .0))) (λ (z : idOf (getD (s .map) x 0) < s .used). omega arith) (sound x (omega arith))))
+    (λ (q : i < y). input-behind from n (i + 1) k (frameRow from i s) (omega arith) (omega (arith, t .more)) (omega (arith, t .map-long)) (w .1) (rw (t .rows-long) room)
+    (rw (t .inputs-long) free) x y b (omega arith) l g (row-settled from i s y (λ (z : y ≡ i). absurd (omega arith)) ∙ m)) (eq-or-lt-of-le h)
 
 -- it is the next input
-input-here : (from : List ℕ) (n i k : ℕ) (s : Frame) → i + suc n ≡ k → 0 < s .used → k ≤ length (s .map) → MapUsed i s → frameRows from i (suc n) s .used ≤ rowsLent (s .rows) → frameRows from i (suc n) s .listed ≤ length (s .inputs)
-    → gateAt from i ≡ false → getD (s .map) i 0 ≡ none → NewInput (s .listed) (frameRows from i (suc n) s) (getD (frameRows from i (suc n) s .map) i 0)
+input-here :
+    (from : List ℕ) (n i k : ℕ) (s : Frame) → i + suc n ≡ k → 0 < s .used → k ≤ length (s .map) → MapUsed i s → frameRows from i (suc n) s .used ≤ rowsLent (s .rows) → frameRows from i
+    (suc n) s .listed ≤ length (s .inputs) → gateAt from i ≡ false → getD (s .map) i 0 ≡ none → NewInput (s .listed) (frameRows from i (suc n) s) (getD (frameRows from i (suc n) s .map) i 0)
 unfolding frameRows
 input-here from n i k s e some long sound room free g m =
     let t = turn from i s in
@@ -162,20 +166,19 @@ input-here from n i k s e some long sound room free g m =
     let c : getD (z .map) i 0 ≡ 2 * s .used = input-edge from n i s (omega arith) g m in
     record { at = s .listed; behind = omega arith; below = omega (arith, more .1, a); edge = c ∙ ap (λ (x : ℕ). 2 * x) (sym (later .kept (s .listed) (omega (arith, a)) ∙ b)) }
 
-input-got : (from : List ℕ) (n i k : ℕ) (s : Frame) → i + n ≡ k → 0 < s .used → k ≤ length (s .map) → MapUsed i s → frameRows from i n s .used ≤ rowsLent (s .rows) → frameRows from i n s .listed ≤ length (s .inputs)
-    → (x : ℕ) → i ≤ x → x < k → gateAt from x ≡ false → getD (s .map) x 0 ≡ none → NewInput (s .listed) (frameRows from i n s) (getD (frameRows from i n s .map) x 0)
+input-got :
+    (from : List ℕ) (n i k : ℕ) (s : Frame) → i + n ≡ k → 0 < s .used → k ≤ length (s .map) → MapUsed i s → frameRows from i n s .used ≤ rowsLent (s .rows) → frameRows from i n s .listed ≤
+    length (s .inputs) → (x : ℕ) → i ≤ x → x < k → gateAt from x ≡ false → getD (s .map) x 0 ≡ none → NewInput (s .listed) (frameRows from i n s) (getD (frameRows from i n s .map) x 0)
 unfolding frameRows
 input-got from zero i k s e some long sound room free x h l g m = absurd (omega arith)
 input-got from (suc n) i k s e some long sound room free x h l g m =
     let t = turn from i s in
     let more = rows-more from n (i + 1) (frameRow from i s) in
     let w = row-step from i s some (omega arith) sound (omega (arith, more .0)) (omega (arith, more .1)) in
-    ⊎-elim
-    (λ (q : i ≡ x). rw (← q) (input-here from n i k s e some long sound room free (rw (sym q) at g) (rw (sym q) at m)))
-    (λ (q : i < x).
-    let r = input-got from n (i + 1) k (frameRow from i s) (omega arith) (omega (arith, t .more)) (omega (arith, t .map-long)) (w .1) (rw (t .rows-long) room) (rw (t .inputs-long) free) x (omega arith) l g (row-settled from i s x (λ (z : x ≡ i). absurd (omega arith)) ∙ m) in
-    record { at = r .at; behind = omega (arith, r .behind, t .listed-more); below = r .below; edge = r .edge })
-    (eq-or-lt-of-le h)
+    ⊎-elim (λ (q : i ≡ x). rw (← q) (input-here from n i k s e some long sound room free (rw (sym q) at g) (rw (sym q) at m)))
+    (λ (q : i < x). let r = input-got from n (i + 1) k (frameRow from i s) (omega arith) (omega (arith, t .more)) (omega (arith, t .map-long)) (w .1) (rw (t .rows-long) room)
+    (rw (t .inputs-long) free) x (omega arith) l g (row-settled from i s x (λ (z : x ≡ i). absurd (omega arith)) ∙ m) in record
+    { at = r .at; behind = omega (arith, r .behind, t .listed-more); below = r .below; edge = r .edge }) (eq-or-lt-of-le h)
 
 -- ---- the map at the start
 module _ (latches : List ℕ) where
@@ -248,15 +251,18 @@ module _ (a b : Lent) (marks : ℕ) (r : FrameRoom a b marks) where
 
   apart : (i j : ℕ) → i < j → j < a .counts .latches → latchAt (a .latches) i .input ≡ latchAt (a .latches) j .input → ⊥
   apart i j h l e =
-      ready .target-formed .once (a .counts .inputs + i) (a .counts .inputs + j) (omega arith) (omega (arith, all-long (a .inputs) (a .counts .inputs) (a .latches) (a .counts .latches) (ready .target .inputs .within)))
-      (latch-at (a .inputs) (a .counts .inputs) (a .latches) (a .counts .latches) (ready .target .inputs .within) i (omega arith)
-      ∙ (e ∙ sym (latch-at (a .inputs) (a .counts .inputs) (a .latches) (a .counts .latches) (ready .target .inputs .within) j l)))
+      ready .target-formed .once (a .counts .inputs + i) (a .counts .inputs + j) (omega arith)
+      (omega (arith, all-long (a .inputs) (a .counts .inputs) (a .latches) (a .counts .latches) (ready .target .inputs .within)))
+      (latch-at (a .inputs) (a .counts .inputs) (a .latches) (a .counts .latches) (ready .target .inputs .within) i (omega arith) ∙
+      (e ∙ sym (latch-at (a .inputs) (a .counts .inputs) (a .latches) (a .counts .latches) (ready .target .inputs .within) j l)))
 
   start-long : b .counts .rows ≤ length (o .map)
   start-long = omega (arith, start-length (a .latches) (a .counts .latches) (b .counts .rows))
 
   sound : MapUsed 0 o
-  sound x l = ⊎-elim (λ e. inl (omega arith, e)) (λ u. inr u) (start-used (a .counts .rows) (a .latches) (a .counts .latches) (b .counts .rows) (ready .target .rows .some) (ready .target-formed .nexts) x l)
+  sound x l =
+      ⊎-elim (λ e. inl (omega arith, e)) (λ u. inr u)
+      (start-used (a .counts .rows) (a .latches) (a .counts .latches) (b .counts .rows) (ready .target .rows .some) (ready .target-formed .nexts) x l)
 
   -- the map at a row that is mapped at the start
   at-start : (x : ℕ) → gateAt (b .rows) x ≡ false → (getD (o .map) x 0 ≡ none → ⊥) → getD (f .map) x 0 ≡ getD (o .map) x 0
@@ -270,11 +276,10 @@ module _ (a b : Lent) (marks : ℕ) (r : FrameRoom a b marks) where
   at-latch j l =
       let k : j < a .counts .latches = rw as-b l in
       let x = latchAt (b .latches) j .input in
-      let s : getD (o .map) x 0 ≡ latchAt (a .latches) j .next
-      = ap (λ (y : ℕ). getD (o .map) y 0) (sym (input-b j k))
-      ∙ start-latch (a .latches) (a .counts .latches) (b .counts .rows) apart (λ i p. rw (input-b i p) (ready .from-formed .latches i (rw (sym as-b) p) .0)) j k in
-      at-start x (no-gate x (ready .from-formed .latches j l .0) (ready .from-formed .latches j l .1)) (λ (e : getD (o .map) x 0 ≡ none). no-none (latchAt (a .latches) j .next) (ready .target-formed .nexts j k) (sym s ∙ e))
-      ∙ s
+      let s : getD (o .map) x 0 ≡ latchAt (a .latches) j .next = ap (λ (y : ℕ). getD (o .map) y 0) (sym (input-b j k)) ∙ start-latch (a .latches) (a .counts .latches) (b .counts .rows) apart
+      (λ i p. rw (input-b i p) (ready .from-formed .latches i (rw (sym as-b) p) .0)) j k in
+      at-start x (no-gate x (ready .from-formed .latches j l .0) (ready .from-formed .latches j l .1))
+      (λ (e : getD (o .map) x 0 ≡ none). no-none (latchAt (a .latches) j .next) (ready .target-formed .nexts j k) (sym s ∙ e)) ∙ s
 
   at-zero : getD (f .map) 0 0 ≡ 0
   at-zero =
@@ -295,12 +300,14 @@ module _ (a b : Lent) (marks : ℕ) (r : FrameRoom a b marks) where
   at-leaf : (x : ℕ) → x < b .counts .rows → leafAt (b .rows) x ≡ true → NoLatch b x → NewInput (a .counts .inputs) f (getD (f .map) x 0)
   unfolding frameOf
   at-leaf x l h n =
-      input-got (b .rows) (b .counts .rows) 0 (b .counts .rows) o (omega arith) (ready .target .rows .some) start-long sound (rows-room a b marks r) (inputs-room a b marks r) x (omega arith) l (no-gate x l h) (at-none x l h n)
+      input-got (b .rows) (b .counts .rows) 0 (b .counts .rows) o (omega arith) (ready .target .rows .some) start-long sound (rows-room a b marks r) (inputs-room a b marks r) x (omega arith)
+      l (no-gate x l h) (at-none x l h n)
 
   at-later : (x y : ℕ) → x < y → y < b .counts .rows → leafAt (b .rows) y ≡ true → NoLatch b y → idOf (getD (f .map) x 0) < idOf (getD (f .map) y 0)
   unfolding frameOf
   at-later x y q l h n =
-      input-behind (b .rows) (b .counts .rows) 0 (b .counts .rows) o (omega arith) (ready .target .rows .some) start-long sound (rows-room a b marks r) (inputs-room a b marks r) x y q (omega arith) l (no-gate y l h) (at-none y l h n)
+      input-behind (b .rows) (b .counts .rows) 0 (b .counts .rows) o (omega arith) (ready .target .rows .some) start-long sound (rows-room a b marks r) (inputs-room a b marks r) x y q
+      (omega arith) l (no-gate y l h) (at-none y l h n)
 
   pub maps : Maps a b f
   maps = record { latches = at-latch; leaves = at-leaf; apart = at-later; zero = at-zero; used = map-used a b marks r }
@@ -336,10 +343,10 @@ module _ (a b : Lent) (marks : ℕ) (r : FrameRoom a b marks) where
         let d : k ≡ idOf (getD (f .map) x 0) = omega (arith, w .edge) in
         even (getD (f .map) x 0) k (w .edge) ∙ (value-leaf (f .rows) (f .used) leaf few-used k (u .below) (u .leaf) ∙ ap leaf d)
 
-    holds : Holds a b f leaf v
+    holds : HoldsNexts a b f leaf v
     holds = record { latches = held-latch; leaves = held-leaf }
 
-    module _ (leaf′ : ℕ → Bool) (h : Holds a b f leaf leaf′) where
+    module _ (leaf′ : ℕ → Bool) (h : HoldsNexts a b f leaf leaf′) where
       -- a leaf of b holds what leaf′ says
       leaf-latch : (j : ℕ) → j < b .counts .latches → v (latchAt (b .latches) j .input) ≡ leaf′ (latchAt (b .latches) j .input)
       leaf-latch j l = held-latch j l ∙ sym (h .latches j l)
@@ -371,8 +378,8 @@ module _ (a b : Lent) (marks : ℕ) (r : FrameRoom a b marks) where
       gates : (x : ℕ) → x < b .counts .rows → gateAt (b .rows) x ≡ true → v x ≡ edgeValue v (word0 (b .rows) x) && edgeValue v (word1 (b .rows) x)
       unfolding v frameOf
       gates x l g =
-          gates-hold (b .rows) leaf (b .counts .rows) 0 (b .counts .rows) o (omega arith) (ready .target .rows .some) start-long sound (rows-room a b marks r) (inputs-room a b marks r) x (omega arith) l g
-          ∙ ap₂ _&&_ (mapped-value (word0 (b .rows) x)) (mapped-value (word1 (b .rows) x))
+          gates-hold (b .rows) leaf (b .counts .rows) 0 (b .counts .rows) o (omega arith) (ready .target .rows .some) start-long sound (rows-room a b marks r) (inputs-room a b marks r) x
+          (omega arith) l g ∙ ap₂ _&&_ (mapped-value (word0 (b .rows) x)) (mapped-value (word1 (b .rows) x))
 
       obeys : Obeys (b .rows) (b .counts .rows) leaf′ v
       unfolding v
@@ -385,7 +392,7 @@ module _ (a b : Lent) (marks : ℕ) (r : FrameRoom a b marks) where
       unfolding edgeValue
       same-edge e l = mapped-value e ∙ rw (same-row (idOf e) l)
 
-  held : (leaf : ℕ → Bool) → Holds a b f leaf (λ (x : ℕ). edgeValue (value (f .rows) leaf) (getD (f .map) x 0))
+  held : (leaf : ℕ → Bool) → HoldsNexts a b f leaf (λ (x : ℕ). edgeValue (value (f .rows) leaf) (getD (f .map) x 0))
   unfolding v
   held leaf = holds leaf
 

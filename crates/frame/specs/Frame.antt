@@ -1,8 +1,8 @@
 -- One frame of `unroll`: the rows of a graph built once more, over a map from its rows to edges.
 -- Assumes nothing.
 use Prim.Native.Nat.{ℕ, zero, suc, _+_, _-_, _*_}
-use mathlib.Core.List.{List, []}
-use mathlib.Core.Bool.{Bool, cond, _&&_}
+use mathlib.Core.List.{List}
+use mathlib.Core.Bool.{Bool, cond}
 use lib.ListN.{getD, set}
 use lib.Dec.{eqb}
 use Rattle.rows.specs.Rows.{none, word0, word1, gateAt}
@@ -10,7 +10,7 @@ use Rattle.graph.specs.declared.Counts.{Counts}
 use Rattle.graph.specs.Graph.{Lent}
 use Rattle.gates.specs.Gates.{State, addAnd, leafAdded}
 use Rattle.renumber.specs.Renumber.{listsOf, graphOf}
-use Rattle.renumber.specs.Room.{hasRoom}
+use Rattle.output.specs.Room.{hasRoom}
 use Rattle.frame.specs.Map.{mapped, startMap, listsGrown}
 
 -- rows, how many of them are used; inputs, how many of them are listed; and the map. On no rows and no inputs nothing is written: so the need is counted.
@@ -75,21 +75,3 @@ framed a b =
 -- "Need is counted before anything is written": folding included
 unfoldable pub frameFits : Lent → Lent → Bool
 frameFits a b = hasRoom a (framed a b .counts)
-
--- the counts after a frame on no rows and no inputs
-abbrev pub needOf : Counts → List ℕ → List ℕ → Counts → Counts
-needOf at latches from n = let f = frameOf [] [] at latches from (n .rows) in raised at n (f .used) (f .listed)
-
--- ---- the most that the counts can be after a frame
--- row i is a leaf that the map has no edge for: a new input
-abbrev pub newLeaf : List ℕ → List ℕ → ℕ → Bool
-newLeaf from map i = eqb (word0 from i) none && eqb (getD map i 0) none
-
--- how many of the n rows from i on are such leaves
-unfoldable pub newLeaves : List ℕ → List ℕ → ℕ → ℕ → ℕ
-newLeaves from map i zero = 0
-newLeaves from map i (suc n) = cond (newLeaf from map i) 1 0 + newLeaves from map (i + 1) n
-
--- a row for each but row 0, and an input for each new leaf
-abbrev pub mostOf : Counts → List ℕ → List ℕ → Counts → Counts
-mostOf at latches from n = raised at n (at .rows + (n .rows - 1)) (at .inputs + newLeaves from (startMap latches (at .latches) (n .rows)) 0 (n .rows))

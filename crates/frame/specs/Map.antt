@@ -1,15 +1,14 @@
 -- The map of a frame, from the rows of `from` to edges of the target, and the lists under it.
 -- Assumes nothing.
-use Prim.Native.Nat.{ℕ, zero, suc, _+_, _*_, _≤_, _<_, _^_}
+use Prim.Native.Nat.{ℕ, zero, suc}
 use mathlib.Core.List.{List}
-use lib.ListN.{length, getD, set, replicate}
+use lib.ListN.{getD, set, replicate}
 use Rattle.edge.specs.Edges.{idOf, isComplemented, complementIf}
 use Rattle.rows.specs.Rows.{none}
 use Rattle.graph.specs.declared.Counts.{Counts}
-use Rattle.graph.specs.Latches.{latchWords, latchAt, latchSet}
-use Rattle.renumber.specs.Writing.{written}
+use Rattle.graph.specs.Latches.{withNext, latchAt, latchSet}
+use Rattle.output.specs.Writing.{written}
 use Rattle.renumber.specs.Renumber.{endsOf, Lists, lists}
-use Rattle.renumber.specs.Map.{ListsUsed}
 
 -- ---- one edge: what its row is mapped to, with its sign
 unfoldable pub mapped : List ℕ → ℕ → ℕ
@@ -25,23 +24,13 @@ nextsMapped latches (suc n) map = set (nextsMapped latches n map) (latchAt latch
 unfoldable pub startMap : List ℕ → ℕ → ℕ → List ℕ
 startMap latches n used = nextsMapped latches n (set (replicate used none) 0 0)
 
--- the inputs of n latches are among the rows that the map has
-pub record LatchesWithin (latches : List ℕ) (n used : ℕ) : Type 0 where
-  pub has : latchWords * n ≤ length latches
-  pub within : (j : ℕ) → j < n → latchAt latches j .input < used
-
--- n latches stand there, and their nexts are edges to rows that the map has
-pub record NextsUsed (used : ℕ) (latches : List ℕ) (n : ℕ) : Type 0 where
-  pub has : latchWords * n ≤ length latches
-  pub below : (j : ℕ) → j < n → idOf (latchAt latches j .next) < used
-
 -- ---- the lists
 abbrev pub mappedOf : List ℕ → List ℕ → ℕ → ℕ
 mappedOf map list j = mapped map (getD list j 0)
 
--- latch i takes another next: its input stays, and "init stays"
+-- latch i takes another next, and "init stays"
 unfoldable pub nextSet : List ℕ → ℕ → ℕ → List ℕ
-nextSet latches i next = latchSet latches i (record { input = latchAt latches i .input; next = next; init = latchAt latches i .init })
+nextSet latches i next = latchSet latches i (withNext (latchAt latches i) next)
 
 -- "latches take the mapped next of `from`"
 unfoldable pub nextsSet : List ℕ → List ℕ → List ℕ → ℕ → List ℕ
@@ -59,15 +48,3 @@ listsGrown map out at from n =
     (written (out .ends) (at .sets) (endsOf (at .edges) (from .ends)) (n .sets))
     (written (out .edges) (at .edges) (mappedOf map (from .edges)) (n .edges))
     (written (out .fairness) (at .fairness) (mappedOf map (from .fairness)) (n .fairness))
-
--- the map has every row that the lists of `from` name, and there is room for them
-pub record ListsReady (map : List ℕ) (out : Lists) (at : Counts) (from : Lists) (n : Counts) : Type 0 where
-  pub used : ListsUsed (length map) from n
-  pub latches : latchWords * n .latches ≤ length (out .latches)
-  pub constraints : at .constraints + n .constraints ≤ length (out .constraints)
-  pub bads : at .bads + n .bads ≤ length (out .bads)
-  pub outputs : at .outputs + n .outputs ≤ length (out .outputs)
-  pub ends : at .sets + n .sets ≤ length (out .ends)
-  pub edges : at .edges + n .edges ≤ length (out .edges)
-  pub fairness : at .fairness + n .fairness ≤ length (out .fairness)
-  pub few : at .edges < 2 ^ 31

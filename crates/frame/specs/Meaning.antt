@@ -10,7 +10,7 @@ use Rattle.edge.specs.Edges.{idOf}
 use Rattle.edge.specs.Meaning.{edgeValue}
 use Rattle.rows.specs.Rows.{none, leafAt}
 use Rattle.rows.specs.Value.{value}
-use Rattle.graph.specs.Latches.{latchAt}
+use Rattle.graph.specs.Latches.{withNext, latchAt}
 use Rattle.graph.specs.Graph.{Lent, Sized}
 use Rattle.graph.specs.WellFormed.{WellFormed}
 use Rattle.gates.specs.Gates.{state}
@@ -65,7 +65,7 @@ pub record Maps (a b : Lent) (f : Frame) : Type 0 where
 -- ---- values
 -- `leaf` chooses the values of the new target's leaves. Then leaf′ has for each leaf of b what it holds in the frame: a latch input what the latch's next was before the frame, any other
 -- what its new input holds.
-pub record Holds (a b : Lent) (f : Frame) (leaf leaf′ : ℕ → Bool) : Type 0 where
+pub record HoldsNexts (a b : Lent) (f : Frame) (leaf leaf′ : ℕ → Bool) : Type 0 where
   pub latches : (j : ℕ) → j < b .counts .latches → leaf′ (latchAt (b .latches) j .input) ≡ edgeValue (value (a .rows) leaf) (latchAt (a .latches) j .next)
   pub leaves : (x : ℕ) → x < b .counts .rows → leafAt (b .rows) x ≡ true → NoLatch b x → leaf′ x ≡ leaf (idOf (getD (f .map) x 0))
 
@@ -74,8 +74,8 @@ pub record FrameMeans (a b : Lent) (f : Frame) : Type 0 where
   pub extends : Extends (frame (a .rows) (a .counts .rows) (a .inputs) (a .counts .inputs) (startMap (a .latches) (a .counts .latches) (b .counts .rows))) f
   pub map : Maps a b f
   -- there is always such a leaf′: what the mapped edges hold
-  pub held : (leaf : ℕ → Bool) → Holds a b f leaf (λ (x : ℕ). edgeValue (value (f .rows) leaf) (getD (f .map) x 0))
-  pub values : (leaf leaf′ : ℕ → Bool) → Holds a b f leaf leaf′ → (e : ℕ) → idOf e < b .counts .rows → edgeValue (value (f .rows) leaf) (mapped (f .map) e) ≡ edgeValue (value (b .rows) leaf′) e
+  pub held : (leaf : ℕ → Bool) → HoldsNexts a b f leaf (λ (x : ℕ). edgeValue (value (f .rows) leaf) (getD (f .map) x 0))
+  pub values : (leaf leaf′ : ℕ → Bool) → HoldsNexts a b f leaf leaf′ → (e : ℕ) → idOf e < b .counts .rows → edgeValue (value (f .rows) leaf) (mapped (f .map) e) ≡ edgeValue (value (b .rows) leaf′) e
   -- a row that was there keeps its value
   pub old-values : (leaf : ℕ → Bool) (i : ℕ) → i < a .counts .rows → value (f .rows) leaf i ≡ value (a .rows) leaf i
 
@@ -93,7 +93,7 @@ pub record FrameAdded (a b g : Lent) : Type 0 where
   pub means : FrameMeans a b (frameBetween a b)
   -- "latches take the mapped next of `from`": input and init stay
   pub latches : (j : ℕ) → j < b .counts .latches
-      → latchAt (g .latches) j ≡ record { input = latchAt (a .latches) j .input; next = mapped (frameBetween a b .map) (latchAt (b .latches) j .next); init = latchAt (a .latches) j .init }
+      → latchAt (g .latches) j ≡ withNext (latchAt (a .latches) j) (mapped (frameBetween a b .map) (latchAt (b .latches) j .next))
   -- "each root list grows by `from`'s mapped entries, justice by whole sets"
   pub constraints : Grew (frameBetween a b .map) (a .counts .constraints) (a .constraints) (b .constraints) (b .counts .constraints) (g .constraints)
   pub bads : Grew (frameBetween a b .map) (a .counts .bads) (a .bads) (b .bads) (b .counts .bads) (g .bads)

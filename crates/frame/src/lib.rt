@@ -8,18 +8,20 @@ ghost use lib.ListN.{length};
 ghost use Rattle.rows.specs.Rows.{AllRows};
 ghost use Rattle.graph.specs.Graph.{lent};
 ghost use Rattle.graph.specs.Check.{cleared};
-ghost use Rattle.renumber.specs.Room.{roomOf};
-ghost use Rattle.frame.specs.Map.{LatchesWithin};
-ghost use Rattle.frame.specs.Frame.{raised as raisedBy, needOf, mostOf, framed};
-ghost use Rattle.frame.specs.Call.{Addable, Bounded, FrameReady, FrameRoom, frameSeen, frameCall};
+ghost use Rattle.output.specs.Room.{fitsIn};
+ghost use Rattle.frame.specs.Steps.{LatchesWithin};
+ghost use Rattle.frame.specs.Frame.{raised as raisedBy, framed};
+ghost use Rattle.frame.specs.Steps.{needOf, mostOf};
+ghost use Rattle.frame.specs.Steps.{Addable, Bounded, FrameRoom};
+ghost use Rattle.frame.specs.Call.{FrameReady, frameSeen, frameCall};
 use graph::Counts;
+use graph::latch::LATCH_WORDS;
 use graph::marks::clear;
 use map::grow_lists;
 use map::new_leaves;
 use map::start_map;
 use rebuild::Reached;
 use rebuild::frame_of;
-use renumber::output::has_room;
 
 // Was there room for the frame, and what are the target's counts now? Where there was none they are as given.
 pub struct Framed {
@@ -109,16 +111,9 @@ fn most(
 
 // Is there room for a frame? Where the most that it can take fits, the need is not counted: that is as much work as the frame itself. The marks are cleared.
 fn fits(
-    rows: &[u32],
-    inputs: &[u32],
     latches: &[u32],
-    constraints: &[u32],
-    bads: &[u32],
-    outputs: &[u32],
-    ends: &[u32],
-    edges: &[u32],
-    fairness: &[u32],
     counts: Counts,
+    room: Counts,
     rows2: &[u32],
     counts2: Counts,
     marks: &mut [u32],
@@ -130,39 +125,16 @@ fn fits(
     requires { ⌜ Bounded (now latches) (counts .latches) (now rows2) (counts2 .rows) ⌝ }
     ensures { λ r. ⌜
         r
-        ≡ roomOf (now (rows .entry)) (now (inputs .entry)) (now (latches .entry)) (now (constraints .entry)) (now (bads .entry)) (now (outputs .entry)) (now (ends .entry)) (now (edges .entry)) (now (fairness .entry))
-        (needOf counts (now (latches .entry)) (now (rows2 .entry)) counts2)
+        ≡ fitsIn room (needOf counts (now (latches .entry)) (now (rows2 .entry)) counts2)
         ⌝ }
     ensures { λ _. ⌜ now (marks .exit) ≡ cleared (counts2 .rows) (now (marks .entry)) ⌝ }
 {
     let most = most(latches, counts, rows2, counts2, marks);
-    if has_room(
-        rows,
-        inputs,
-        latches,
-        constraints,
-        bads,
-        outputs,
-        ends,
-        edges,
-        fairness,
-        most,
-    ) {
+    if output::fits(room, most) {
         return true;
     }
     let need = needed(latches, counts, rows2, counts2, marks);
-    has_room(
-        rows,
-        inputs,
-        latches,
-        constraints,
-        bads,
-        outputs,
-        ends,
-        edges,
-        fairness,
-        need,
-    )
+    output::fits(room, need)
 }
 
 // Writes the frame, where there is room for it: the rows and inputs first, then by their map the latches' nexts and the lists. The marks hold the map, and are cleared.
@@ -268,21 +240,18 @@ pub fn add_frame(
         (now (marks .entry))
         ⌝ }
 {
-    if !fits(
-        rows,
-        inputs,
-        latches,
-        constraints,
-        bads,
-        outputs,
-        ends,
-        edges,
-        fairness,
-        counts,
-        rows2,
-        counts2,
-        marks,
-    ) {
+    let room = Counts {
+        rows: rows.len() / 2,
+        inputs: inputs.len(),
+        latches: latches.len() / LATCH_WORDS,
+        constraints: constraints.len(),
+        bads: bads.len(),
+        outputs: outputs.len(),
+        sets: ends.len(),
+        edges: edges.len(),
+        fairness: fairness.len(),
+    };
+    if !fits(latches, counts, room, rows2, counts2, marks) {
         return Framed {
             fits: false,
             counts,

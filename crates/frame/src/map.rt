@@ -6,14 +6,15 @@ ghost use Rattle.edge.specs.Edges.{idOf};
 ghost use Rattle.rows.specs.Rows.{none};
 ghost use Rattle.rows.specs.Sizes.{maxRows};
 ghost use Rattle.graph.specs.Latches.{latchWords};
-ghost use Rattle.renumber.specs.Writing.{written};
+ghost use Rattle.output.specs.Writing.{written};
 ghost use Rattle.renumber.specs.Renumber.{lists};
-ghost use Rattle.renumber.specs.Map.{UsedEdges};
-ghost use Rattle.frame.specs.Map.{mapped as mappedBy, startMap, LatchesWithin, NextsUsed, mappedOf, nextsSet, listsGrown, ListsReady};
-ghost use Rattle.frame.specs.Frame.{newLeaves};
+ghost use Rattle.renumber.specs.Steps.{UsedEdges};
+ghost use Rattle.frame.specs.Map.{mapped as mappedBy, startMap, mappedOf, nextsSet, listsGrown};
+ghost use Rattle.frame.specs.Steps.{LatchesWithin, NextsUsed, ListsReady};
+ghost use Rattle.frame.specs.Steps.{newLeaves};
 use graph::Counts;
-use graph::latch::Latch;
 use graph::latch::latch_at;
+use graph::latch::with_next;
 use graph::latch::write_latch;
 use renumber::write_ends;
 use rows::kinds::NONE;
@@ -83,15 +84,7 @@ fn write_nexts(latches: &mut [u32], from: &[u32], n: usize, map: &[u32])
     for j in 0..n {
         let next = mapped(map, latch_at(from, j).next);
         let l = latch_at(latches, j);
-        write_latch(
-            latches,
-            j,
-            Latch {
-                input: l.input,
-                next,
-                init: l.init,
-            },
-        );
+        write_latch(latches, j, with_next(l, next));
     }
 }
 

@@ -9,9 +9,9 @@ use mathlib.Core.Bool.{Bool, true, false, cond}
 use mathlib.Core.List.{List, [], _∷_, _++_, append-nil}
 use lib.ListN.{length, set, take, drop, length-drop, length-set, drop-of-length-le}
 use lib.Seq.{take-all}
-use lib.Dec.{leb, ltb, eqb}
+use lib.Dec.{leb, eqb}
 use borrow.Rule.Slice.PartMut.{putMid, midOf}
-use borrow.Author.Tests.{ltb-true, ltb-false, le-leb, lt-leb, eq-eqb, ne-eqb}
+use borrow.Author.Tests.{le-leb, lt-leb, eq-eqb, ne-eqb}
 use Rattle.edge.specs.Edges.{idOf, complement}
 use Rattle.edge.proofs.Meaning.{complement-parts}
 use Rattle.gates.specs.declared.Fold.{Fold}
@@ -97,15 +97,6 @@ module _ (a b : ℕ) (s : idOf a ≤ idOf b) (l : 2 ≤ a) where
       let m : a ≡ b → ⊥ = λ (z : a ≡ b). omega arith in
       let q : a ≡ complement b → ⊥ = λ (z : a ≡ complement b). omega arith in
       no-constants Gate (rw (ne-eqb a b m, ne-eqb a (complement b) q))
-
--- the two in order are in order
-pub in-order : (a b : ℕ) {x y : ℕ} → x ≡ first a b → y ≡ second a b → idOf x ≤ idOf y
-unfolding first second
-in-order a b p q = go (ltb (idOf b) (idOf a)) refl p q
-  where
-    go : (t : Bool) → ltb (idOf b) (idOf a) ≡ t → {x y : ℕ} → x ≡ cond t b a → y ≡ cond t a b → idOf x ≤ idOf y
-    go true h p q = let l = ltb-true (idOf b) (idOf a) h in rw (p, q) (omega arith)
-    go false h p q = let l = ltb-false (idOf b) (idOf a) h in rw (p, q) (omega arith)
 
 module _ (rows : List ℕ) (used a b : ℕ) {x y : ℕ} {f : Fold} (p : x ≡ first a b) (q : y ≡ second a b) (r : f ≡ folded x y) where
   pub and-to : {e : ℕ} → f ≡ To e → state rows used e ≡ addAnd rows used a b

@@ -9,7 +9,7 @@ use mathlib.Core.Logic.{⊎-elim}
 use mathlib.Core.List.{List, [], _∷_}
 use lib.ListN.{length, getD, set, length-set}
 use lib.Seq.{getD-set-same, getD-set-other}
-use lib.Dec.{ltb, eqb}
+use lib.Dec.{eqb}
 use borrow.Author.Tests.{lt-ltb}
 use Rattle.edge.specs.Edges.{idOf, complement, complementIf}
 use Rattle.edge.proofs.Meaning.{complementing}
@@ -18,9 +18,10 @@ use Rattle.rows.specs.Sizes.{rowsLent}
 use Rattle.rows.specs.Rows.{none, word0, word1, isFalseRow, isLeaf, isGate, isRow, rowAt}
 use Rattle.gates.specs.declared.Fold.{Fold}
 use Rattle.gates.specs.declared.Fold.the-variants.{To, Gate}
-use Rattle.gates.specs.Gates.{State, state, rowAdded, first, second, addGate, folded, orGate, addAnd, addStep, step, steps}
+use Rattle.gates.specs.Gates.{State, state, rowAdded, Ordered, first, second, addGate, folded, orGate, addAnd, addStep, step, steps}
 use Rattle.gates.specs.Lists.{allOf, signed, listOf, eqOf}
 use Rattle.gates.specs.Meaning.{Grows, AllUsed}
+use Rattle.gates.proofs.Ordering.{ordered, order-used}
 use Rattle.gates.proofs.Building.{row-there, row-long, and-sized, steps-sized}
 use Rattle.gates.proofs.Listing.{list-sized}
 
@@ -66,14 +67,6 @@ unfolding isRow
 leaf-row used some = rw (leaf-here used some, or-true (isFalseRow used none 0))
 
 -- ---- a gate over used edges
-pub order-used : (used a b : ℕ) → idOf a < used → idOf b < used → (idOf (first a b) < used) × (idOf (second a b) < used)
-unfolding first second
-order-used used a b p q = go (ltb (idOf b) (idOf a))
-  where
-    go : (t : Bool) → (idOf (cond t b a) < used) × (idOf (cond t a b) < used)
-    go true = (q, p)
-    go false = (p, q)
-
 pub is-gate : (i a b : ℕ) → idOf a < i → idOf b < i → isGate i a b ≡ true
 unfolding isGate
 is-gate i a b p q = rw (lt-ltb a (2 * i) (omega arith), lt-ltb b (2 * i) (omega arith))
@@ -119,6 +112,29 @@ module _ (rows : List ℕ) (used a b : ℕ) (some : 0 < used) (p : idOf a < used
   unfolding addStep addGate
   step-grows true l = gate-grows l
   step-grows false l = and-grows l
+
+-- ---- the row that is added has the two edges in order, on any rows
+module _ (rows : List ℕ) (used a b : ℕ) (room : used + 1 ≤ rowsLent rows) where
+  abbrev InRow : State → Type 0
+  InRow s = Ordered a b (word0 (s .rows) used) (word1 (s .rows) used)
+
+  pub gate-ordered : InRow (addGate rows used a b)
+  unfolding addGate
+  gate-ordered = rw (row-first rows used (first a b) (second a b) room, row-second rows used (first a b) (second a b) room) (ordered a b)
+
+  -- where it does not fold
+  pub and-ordered : addAnd rows used a b .used ≡ used + 1 → InRow (addAnd rows used a b)
+  unfolding addAnd
+  and-ordered = go (folded (first a b) (second a b))
+    where
+      go : (f : Fold) → orGate f rows used (addGate rows used a b) .used ≡ used + 1 → InRow (orGate f rows used (addGate rows used a b))
+      go (To e) more = absurd (omega arith)
+      go Gate more = gate-ordered
+
+  pub step-ordered : (trivial : Bool) → addStep trivial rows used a b .used ≡ used + 1 → InRow (addStep trivial rows used a b)
+  unfolding addStep
+  step-ordered true more = gate-ordered
+  step-ordered false more = and-ordered more
 
 -- ---- growing on
 pub grows-on : (rows : List ℕ) (used : ℕ) (s t : State) → Grows rows used s → Grows (s .rows) (s .used) t → Grows rows used t

@@ -1,3 +1,4 @@
+pub mod Ordering
 pub mod Building
 pub mod Listing
 pub mod Growing

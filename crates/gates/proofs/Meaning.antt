@@ -5,7 +5,7 @@ use native.Mathlib.Omega.{arith}
 use mathlib.Core.Path.{_≡_, refl, sym, ap, _∙_}
 use mathlib.Core.Bool.{Bool, true, false, cond, not, _&&_, _||_, and-self, and-comm, and-assoc}
 use mathlib.Core.List.{List, [], _∷_}
-use lib.Dec.{ltb, eqb}
+use lib.Dec.{eqb}
 use borrow.Author.Tests.{eqb-true}
 use Rattle.edge.specs.Edges.{idOf, edgeOf, complement, constantOf}
 use Rattle.edge.specs.Meaning.{edgeValue}
@@ -18,7 +18,9 @@ use Rattle.gates.specs.declared.Fold.the-variants.{To, Gate}
 use Rattle.gates.specs.Gates.{State, state, rowAdded, first, second, addGate, folded, orGate, addAnd, addStep, step, steps}
 use Rattle.gates.specs.Lists.{allOf, signed, listOf, eqOf}
 use Rattle.gates.specs.Meaning.{Grows, AllUsed, allTrue, anyTrue}
-use Rattle.gates.proofs.Growing.{row-first, row-second, order-used, is-gate, gate-grows, head-used, tail-used, signed-used, next-room, next-grows, next-all, rest-room, next-some, fst, snd, fst-room, fst-grows, snd-room, fst-some, a-later, b-later, snd-grows, snd-some, pair-used, last-room}
+use Rattle.gates.proofs.Ordering.{both-ordered, order-used}
+use Rattle.gates.proofs.Growing.{row-first, row-second, is-gate, gate-grows, head-used, tail-used, signed-used, next-room, next-grows, next-all, rest-room, next-some}
+use Rattle.gates.proofs.Growing.{fst, snd, fst-room, fst-grows, snd-room, fst-some, a-later, b-later, snd-grows, snd-some, pair-used, last-room}
 
 -- ---- older rows keep their values, and so do edges to them
 pub grows-value : (rows : List ℕ) (used : ℕ) (s : State) → Grows rows used s → (leaf : ℕ → Bool) (i : ℕ) → i < used → value (s .rows) leaf i ≡ value rows leaf i
@@ -70,12 +72,8 @@ module _ (v : ℕ → Bool) (z : v 0 ≡ false) where
       go false false false false false false h i j k l m = refl
 
   order-value : (a b : ℕ) → edgeValue v (first a b) && edgeValue v (second a b) ≡ edgeValue v a && edgeValue v b
-  unfolding first second
-  order-value a b = go (ltb (idOf b) (idOf a))
-    where
-      go : (t : Bool) → edgeValue v (cond t b a) && edgeValue v (cond t a b) ≡ edgeValue v a && edgeValue v b
-      go true = and-comm (edgeValue v b) (edgeValue v a)
-      go false = refl
+  order-value a b =
+      both-ordered (λ (x y : ℕ). edgeValue v x && edgeValue v y ≡ edgeValue v a && edgeValue v b) a b refl (and-comm (edgeValue v b) (edgeValue v a))
 
 -- the edge to a row, uncomplemented
 pub even-value : (v : ℕ → Bool) (i : ℕ) → edgeValue v (2 * i) ≡ v i
@@ -203,17 +201,17 @@ module _ (rows : List ℕ) (used a b : ℕ) (some : 0 < used) (p : idOf a < used
   eq-value =
       let f = fst-grows rows used a b some p q room in
       let g = snd-grows rows used a b some p q room in
-      list-value false true (y .rows) (y .used) (x .edge ∷ (y .edge ∷ [])) leaf (snd-some rows used a b some p q room) (pair-used rows used a b some p q room) (last-room rows used a b some p q room)
-      ∙ rw (
+      list-value false true (y .rows) (y .used) (x .edge ∷ (y .edge ∷ [])) leaf (snd-some rows used a b some p q room) (pair-used rows used a b some p q room)
+      (last-room rows used a b some p q room) ∙ rw (
         grows-edge (x .rows) (x .used) y g leaf (x .edge) (f .edge),
         and-value rows used a b some p q leaf (fst-room rows used a b some p q room),
-        and-value (x .rows) (x .used) (complement a) (complement b) (fst-some rows used a b some p q room) (a-later rows used a b some p q room) (b-later rows used a b some p q room) leaf (snd-room rows used a b some p q room),
+        and-value (x .rows) (x .used) (complement a) (complement b) (fst-some rows used a b some p q room) (a-later rows used a b some p q room) (b-later rows used a b some p q room) leaf
+            (snd-room rows used a b some p q room),
         complementing .negates (value (x .rows) leaf) a,
         complementing .negates (value (x .rows) leaf) b,
         grows-edge rows used x f leaf a p,
         grows-edge rows used x f leaf b q,
-      )
-      (same (edgeValue (value rows leaf) a) (edgeValue (value rows leaf) b))
+      ) (same (edgeValue (value rows leaf) a) (edgeValue (value rows leaf) b))
     where
       same : (s t : Bool) → (s && t) || ((not s && not t) || false) ≡ cond s t (not t)
       same true true = refl

@@ -1,6 +1,8 @@
 -- Gates: how one is added after the used rows, and when the AND of two edges folds to an edge that is there already.
 -- Assumes nothing.
-use Prim.Native.Nat.{ℕ, _+_, _*_}
+use Prim.Native.Nat.{ℕ, _+_, _*_, _≤_}
+use mathlib.Core.Path.{_≡_}
+use mathlib.Core.Logic.{_⊎_}
 use mathlib.Core.List.{List, [], _∷_}
 use mathlib.Core.Bool.{Bool, true, false, cond}
 use lib.ListN.{length, set}
@@ -10,10 +12,6 @@ use Rattle.rows.specs.Rows.{falseWord, none}
 use Rattle.gates.specs.declared.Grown.{Grown}
 use Rattle.gates.specs.declared.Fold.{Fold}
 use Rattle.gates.specs.declared.Fold.the-variants.{To, Gate}
-
--- A step may start at this many used rows: all codes are words still. A call starts at 1,048,576 at most and takes no more steps than that: a frame takes one for each row of a graph.
-abbrev pub stepLimit : ℕ
-stepLimit = 2097152
 
 -- ---- building: a table of rows, how many of them are used, and the edge that was built
 pub record State : Type 0 where
@@ -40,14 +38,24 @@ firstRow rows = rowAdded rows 0 falseWord 0
 abbrev pub leafAdded : List ℕ → ℕ → List ℕ
 leafAdded rows used = rowAdded rows used none 0
 
--- "puts the smaller id first, keeps the given order for equal ids"
+-- ---- the order of a gate's two edges: "puts the smaller id first, keeps the given order for equal ids"
+abbrev pub Sorted : ℕ → ℕ → Type 0
+Sorted x y = idOf x ≤ idOf y
+
+-- x and y are a and b in order
+pub record Ordered (a b x y : ℕ) : Type 0 where
+  pub sorted : Sorted x y
+  pub either : ((x ≡ a) × (y ≡ b)) ⊎ ((x ≡ b) × (y ≡ a))
+  -- what is in order stays so, equal ids too
+  pub stay : Sorted a b → (x ≡ a) × (y ≡ b)
+
 unfoldable pub first : ℕ → ℕ → ℕ
 first a b = cond (ltb (idOf b) (idOf a)) b a
 
 unfoldable pub second : ℕ → ℕ → ℕ
 second a b = cond (ltb (idOf b) (idOf a)) a b
 
--- "and always takes a row"
+-- ---- "and always takes a row"
 unfoldable pub addGate : List ℕ → ℕ → ℕ → ℕ → State
 addGate rows used a b = state (rowAdded rows used (first a b) (second a b)) (used + 1) (2 * used)
 

@@ -1,3 +1,4 @@
 pub mod Gates
 pub mod Lists
 pub mod Meaning
+pub mod Steps

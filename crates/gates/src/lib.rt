@@ -4,8 +4,8 @@ pub mod lists;
 ghost use mathlib.Core.Path.{_≡_};
 ghost use Prim.Native.Nat.{_≤_};
 ghost use lib.ListN.{length, set};
-ghost use Rattle.edge.specs.Edges.{idOf};
-ghost use Rattle.gates.specs.Gates.{stepLimit, stateOf, rowAdded, first, second, addGate, folded, addAnd, addStep};
+ghost use Rattle.gates.specs.Steps.{stepLimit};
+ghost use Rattle.gates.specs.Gates.{stateOf, rowAdded, Sorted, first, second, addGate, folded, addAnd, addStep};
 
 // How many rows are used after a step, and the edge that it built.
 pub struct Grown {
@@ -67,7 +67,7 @@ pub fn add_gate(rows: &mut [u32], used: usize, a: u32, b: u32) -> Grown
 
 // What the AND of two edges in order folds to. Of edges in order the second is a constant only where the first is one, and equal and complementary edges have one id: so two questions do.
 fn folded(a: u32, b: u32) -> Fold
-    requires { ⌜ idOf a ≤ idOf b ⌝ }
+    requires { ⌜ Sorted a b ⌝ }
     ensures { λ r. ⌜ r ≡ folded a b ⌝ }
 {
     if a < 2 {

@@ -63,7 +63,9 @@ module _ (p : ℕ → Bool) where
 
   -- each number is counted once
   pub count-apart : (i j : ℕ) → p i ≡ true → p j ≡ true → countBelow p i ≡ countBelow p j → i ≡ j
-  count-apart i j a b e = ⊎-elim (λ (l : i < j). absurd (omega (arith, count-past j i l a))) (λ (h : j ≤ i). ⊎-elim (λ (q : j ≡ i). sym q) (λ (l : j < i). absurd (omega (arith, count-past i j l b))) (eq-or-lt-of-le h)) (lt-or-le i j)
+  count-apart i j a b e =
+      ⊎-elim (λ (l : i < j). absurd (omega (arith, count-past j i l a)))
+      (λ (h : j ≤ i). ⊎-elim (λ (q : j ≡ i). sym q) (λ (l : j < i). absurd (omega (arith, count-past i j l b))) (eq-or-lt-of-le h)) (lt-or-le i j)
 
   -- none is counted exactly if none is such
   pub none-counted : (n : ℕ) → countBelow p n ≡ 0 → (i : ℕ) → i < n → p i ≡ false

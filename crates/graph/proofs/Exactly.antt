@@ -5,27 +5,24 @@ use native.Mathlib.Omega.{arith}
 use native.Mathlib.Nat.{eq-or-lt-of-le}
 use mathlib.Core.Path.{_≡_, refl, sym, ap, _∙_}
 use mathlib.Core.Bool.{Bool, true, false, cond}
-use mathlib.Core.Logic.{inl, inr, ⊎-elim}
+use mathlib.Core.Logic.{⊎-elim}
 use mathlib.Core.List.{List}
 use lib.ListN.{length}
 use lib.Dec.{eqb}
 use borrow.Author.Tests.{eqb-true, eqb-false}
 use Rattle.edge.specs.declared.answer.Given.{Given}
 use Rattle.edge.specs.Answers.{done, badSizes, badArgument, noRoom, orElse}
-use Rattle.edge.proofs.Tests.{both-true, false-true, lt-or-le}
+use Rattle.edge.proofs.Tests.{false-true, lt-or-le}
 use Rattle.edge.proofs.Answers.{stops-here, goes-past}
 use Rattle.graph.specs.Graph.{Lent, Sized, sizesRight}
 use Rattle.graph.specs.Stages.{Stage, AllClean, Names}
 use Rattle.graph.specs.Stages.AllClean.{more}
 use Rattle.graph.specs.Stages.Names.{here, later}
-use Rattle.graph.specs.Check.{CheckSeen, cleared, stages, checkCall}
+use Rattle.graph.specs.Check.{CheckSeen, stages, checkCall}
 use Rattle.graph.specs.WellFormed.{WellFormed}
-use Rattle.graph.specs.Exactly.{Exactly, all-right, wrong-sizes, faulty, wrong-argument, full, Answered, Answers, FaultOfTwo, AnswersTwo}
-use Rattle.rows.specs.Rows.{larger}
-use Rattle.graph.specs.Pair.{sizesOfTwo, SizedTwo, checkTwoCall}
+use Rattle.graph.specs.Exactly.{Exactly, all-right, wrong-sizes, faulty, wrong-argument, full, Answered, Answers}
 use Rattle.graph.proofs.Checked.{sized}
-use Rattle.graph.proofs.WellFormed.{sizes-true, all-clean, row-or-entry, exact}
-use Rattle.graph.proofs.Pairing.{sized-two, exact-two}
+use Rattle.graph.proofs.WellFormed.{sizes-true, row-or-entry, exact}
 
 -- ---- behind an answer
 module _ {sizes formed : Type 0} {fault : Given → Type 0} (refused : (p : Given) → fault p → p .number ≡ 0 → ⊥) where
@@ -89,7 +86,9 @@ module _ (g : Lent) (marks : List ℕ) where
   pub check-answers : Answered (Sized g (length marks)) (WellFormed g) (Names (stages g)) true true (g .counts .rows) marks (checkCall g marks .given) (checkCall g marks .marks)
   check-answers = record { exactly = by-sizes (sizesRight g (length marks)) refl; untouched = exact g marks .untouched; zeroed = exact g marks .clear }
     where
-      formed : Sized g (length marks) → (t : Bool) → eqb (checkCall g marks .given .number) 0 ≡ t → Exactly (Sized g (length marks)) (WellFormed g) (Names (stages g)) true true (checkCall g marks .given)
+      formed :
+          Sized g (length marks) → (t : Bool) → eqb (checkCall g marks .given .number) 0 ≡ t → Exactly (Sized g (length marks)) (WellFormed g) (Names (stages g)) true true
+          (checkCall g marks .given)
       formed s true e = let w = exact g marks .accepted (eqb-true _ _ e) .1 in rw (exact g marks .accepts s w) (all-right s w refl refl)
       formed s false e =
           let n : WellFormed g → ⊥ = λ w. eqb-false _ _ e (ap (λ (p : Given). p .number) (exact g marks .accepts s w)) in
@@ -116,58 +115,6 @@ pub own-answers : (own : Bool) {good room : Bool} (g : Lent) (marks : List ℕ) 
     → Answers own good room g marks (cond own seen (record { given = badSizes; marks = marks }) .given) (cond own seen (record { given = badSizes; marks = marks }) .marks)
 own-answers true g marks seen a = record { exactly = resized (λ s. (refl, s)) (λ t. t .1) (a .exactly); untouched = a .untouched; zeroed = a .zeroed }
 own-answers false g marks seen a = record { exactly = wrong-sizes (λ t. false-true (t .0)); untouched = λ z. refl; zeroed = λ n. absurd (n refl) }
-
--- ---- the check of two graphs
-pub two-refused : (a b : Lent) (p : Given) → FaultOfTwo a b p → p .number ≡ 0 → ⊥
-two-refused a b p (inl names) = names-refused a p names
-two-refused a b p (inr second) = names-refused b p (second .1)
-
-module _ (a b : Lent) (marks : List ℕ) where
-  abbrev two : Given
-  two = checkTwoCall a b marks .given
-
-  -- the sizes are right, or they are not
-  data Sizes : Type 0 where
-    right : SizedTwo a b (length marks) → Sizes
-    wrong : (SizedTwo a b (length marks) → ⊥) → Sizes
-
-  by-sizes : Sizes
-  by-sizes = go (sizesOfTwo a b (length marks)) refl
-    where
-      go : (t : Bool) → sizesOfTwo a b (length marks) ≡ t → Sizes
-      go true e = right (sized-two a b (length marks) e)
-      go false e = wrong (λ s. false-true (sym e ∙ both-true {a = sizesRight a (length marks)} (sizes-true a (length marks) (s .first)) (sizes-true b (length marks) (s .second))))
-
-  -- of two graphs of right sizes
-  judged-two : SizedTwo a b (length marks) → Exactly (SizedTwo a b (length marks)) (WellFormed a × WellFormed b) (FaultOfTwo a b) true true two
-  judged-two s = first (eqb (checkCall a marks .given .number) 0) refl
-    where
-      faults : (g : Lent) → Sized g (length marks) → eqb (checkCall g marks .given .number) 0 ≡ false → WellFormed g → ⊥
-      faults g z e w = eqb-false _ _ e (ap (λ (p : Given). p .number) (exact g marks .accepts z w))
-
-      second : WellFormed a → (t : Bool) → eqb (checkCall b marks .given .number) 0 ≡ t
-          → Exactly (SizedTwo a b (length marks)) (WellFormed a × WellFormed b) (FaultOfTwo a b) true true (checkCall b marks .given)
-      second w true e = let v = exact b marks .accepted (eqb-true _ _ e) .1 in rw (exact b marks .accepts (s .second) v) (all-right s (w, v) refl refl)
-      second w false e = let n = faults b (s .second) e in faulty s (λ both. n (both .1)) (inr (w, exact b marks .names (s .second) n))
-
-      first : (t : Bool) → eqb (checkCall a marks .given .number) 0 ≡ t → Exactly (SizedTwo a b (length marks)) (WellFormed a × WellFormed b) (FaultOfTwo a b) true true two
-      first true e =
-          let w = exact a marks .accepted (eqb-true _ _ e) .1 in
-          rw (exact-two a b marks .of-second s w) (second w (eqb (checkCall b marks .given .number) 0) refl)
-      first false e =
-          let n = faults a (s .first) e in
-          rw (exact-two a b marks .of-first s n) (faulty s (λ both. n (both .0)) (inl (exact a marks .names (s .first) n)))
-
-  pub check-two-answers : AnswersTwo true true a b marks two (checkTwoCall a b marks .marks)
-  check-two-answers = record { exactly = exactly by-sizes; untouched = exact-two a b marks .untouched; zeroed = zeroed by-sizes }
-    where
-      exactly : Sizes → Exactly (SizedTwo a b (length marks)) (WellFormed a × WellFormed b) (FaultOfTwo a b) true true two
-      exactly (right s) = judged-two s
-      exactly (wrong n) = rw (exact-two a b marks .refuses n) (wrong-sizes n)
-
-      zeroed : Sizes → (two .number ≡ 1 → ⊥) → checkTwoCall a b marks .marks ≡ cleared (larger (a .counts .rows) (b .counts .rows)) marks
-      zeroed (right s) h = exact-two a b marks .clear s
-      zeroed (wrong n) h = absurd (h (ap (λ (p : Given). p .number) (exact-two a b marks .refuses n)))
 
 -- ---- one case only: what holds of what is lent fixes the answer
 module _ {sizes formed : Type 0} {fault : Given → Type 0} (one-fault : sizes → (p q : Given) → fault p → fault q → p ≡ q) {good room : Bool} where
@@ -213,12 +160,6 @@ names-one p q (later clean names) (here j m c earlier) = absurd (false-true (sym
 names-one p q (later clean names) (later also others) = names-one p q names others
 
 -- where the first graph is well-formed it has no fault
-no-fault : {ss : List Stage} {p : Given} → AllClean ss → Names ss p → ⊥
+pub no-fault : {ss : List Stage} {p : Given} → AllClean ss → Names ss p → ⊥
 no-fault (more c all) (here i l b before) = false-true (sym b ∙ c i l)
 no-fault (more c all) (later clean names) = no-fault all names
-
-pub two-one : (a b : Lent) (marks : ℕ) → SizedTwo a b marks → (p q : Given) → FaultOfTwo a b p → FaultOfTwo a b q → p ≡ q
-two-one a b marks s p q (inl x) (inl y) = names-one p q x y
-two-one a b marks s p q (inl x) (inr y) = absurd (no-fault (all-clean a marks (s .first) (y .0)) x)
-two-one a b marks s p q (inr x) (inl y) = absurd (no-fault (all-clean a marks (s .first) (x .0)) y)
-two-one a b marks s p q (inr x) (inr y) = names-one p q (x .1) (y .1)

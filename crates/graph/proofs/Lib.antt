@@ -1,3 +1,4 @@
+pub mod Latches
 pub mod Searching
 pub mod Stages
 pub mod Marked
@@ -5,6 +6,5 @@ pub mod Sets
 pub mod Checked
 pub mod Listed
 pub mod WellFormed
-pub mod Pairing
 pub mod Counting
 pub mod Exactly

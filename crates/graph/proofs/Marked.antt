@@ -13,7 +13,8 @@ use borrow.Author.Tests.{ltb-true, eqb-true, eqb-false}
 use Rattle.edge.proofs.Tests.{both}
 use Rattle.rows.specs.Rows.{leafAt}
 use Rattle.graph.specs.Latches.{latchAt, latchInputs}
-use Rattle.graph.specs.Leaves.{member, freeLeaf, Marks, unmarkedLeaf}
+use Rattle.graph.specs.Leaves.{member, freeLeaf, Marks}
+use Rattle.graph.specs.Steps.{unmarkedLeaf}
 use Rattle.graph.specs.Check.{cleared}
 
 member-snoc : (x y : ℕ) (l : List ℕ) → member x (l ++ (y ∷ [])) ≡ member x l || eqb x y

@@ -16,7 +16,8 @@ use Rattle.edge.proofs.Tests.{both, lt-or-le}
 use Rattle.graph.specs.declared.search.Found.{Found}
 use Rattle.graph.specs.declared.search.Found.the-variants.{At, Nothing}
 use Rattle.graph.specs.Search.{firstBad}
-use Rattle.graph.specs.Justice.{start, endIs, goodEnd, foundOr, setOf, InSet}
+use Rattle.graph.specs.Justice.{start, endIs, goodEnd, foundOr, setOf}
+use Rattle.graph.specs.Sets.{InSet}
 use Rattle.graph.specs.Stages.{found, firstFault}
 use Rattle.graph.specs.Check.{noSetStage, endStage, setStage, justiceStages}
 use Rattle.graph.proofs.Searching.{all-good, is-first, first-is, nothing-bad}

@@ -27,7 +27,7 @@ use Rattle.graph.specs.Graph.{Lent, sizesRight, Sized}
 use Rattle.graph.specs.Check.{stages, contents, cleared, CheckSeen, checkCall}
 use Rattle.graph.specs.WellFormed.{listed, UsedEdges, WellFormed, Exact}
 use Rattle.graph.proofs.Stages.{judged, clean-done, named-entry}
-use Rattle.graph.proofs.Stages.Entries.{ends, also}
+use Rattle.graph.proofs.Stages.{ends, also}
 use Rattle.graph.proofs.Sets.{End, end-is, start-next}
 use Rattle.graph.proofs.Checked.{sized}
 use Rattle.graph.proofs.Listed.{all-long, input-at, input-before, latch-at, latch-before, new-differs, differs-new, Free, free, is-free}
@@ -138,8 +138,8 @@ module _ (g : Lent) (m : ℕ) (size : Sized g m) where
             let q : j ≡ n + (j - n) = omega arith in
             let k : j - n < g .counts .latches = omega (arith, long) in
             new-differs (listed g) j
-            (rw (q, latch-at (g .inputs) n (g .latches) (g .counts .latches) fit (j - n) k, latch-before (g .inputs) n (g .latches) (g .counts .latches) fit (j - n) (omega arith)) (latch-free (j - n) k .0 .new))
-            (omega arith) i l
+            (rw (q, latch-at (g .inputs) n (g .latches) (g .counts .latches) fit (j - n) k, latch-before (g .inputs) n (g .latches) (g .counts .latches) fit (j - n) (omega arith))
+            (latch-free (j - n) k .0 .new)) (omega arith) i l
 
   well-formed : AllClean (stages g) → WellFormed g
   well-formed (more rows (more inputs (more latches (more constraints (more bads (more outputs (more sets (more ends′ (more edges (more fairness nothing)))))))))) =
@@ -209,7 +209,11 @@ module _ (g : Lent) where
   pub row-or-entry : {p : Given} → Names (stages g) p → ((p .number ≡ 2) × (Rows → ⊥)) ⊎ ((p .number ≡ 3) × Rows)
   row-or-entry (here i l b before) = inl (refl, λ all. false-true (sym b ∙ all i l))
   row-or-entry (later rows names) =
-      inr (named-entry (also (λ i. refl) (also (λ i. refl) (also (λ i. refl) (also (λ i. refl) (also (λ i. refl) (also (λ i. refl) (also (λ i. refl) (also (λ i. refl) (also (λ i. refl) ends))))))))) names, rows)
+      inr (
+        named-entry (also (λ i. refl) (also (λ i. refl) (also (λ i. refl) (also (λ i. refl) (also (λ i. refl) (also (λ i. refl) (also (λ i. refl) (also (λ i. refl) (also (λ i. refl) ends)))))))))
+            names,
+        rows,
+      )
 
 -- what is known of a graph by its answer
 data Judged (g : Lent) (marks : List ℕ) : Given → Type 0 where

@@ -1,9 +1,8 @@
--- Document 01's table "The numbers a call answers", as cases: each number is "given exactly when" its case holds. One statement for every call on a whole graph, or on two.
+-- Document 01's table "The numbers a call answers", as cases: each number is "given exactly when" its case holds. One statement for every call on a whole graph; `two_graphs` has it for two.
 -- Assumes nothing.
 use Prim.Native.Nat.{ℕ}
 use mathlib.Core.Path.{_≡_}
 use mathlib.Core.Bool.{Bool, true, false}
-use mathlib.Core.Logic.{_⊎_}
 use mathlib.Core.List.{List}
 use lib.ListN.{length}
 use Rattle.edge.specs.declared.answer.Given.{Given}
@@ -12,8 +11,6 @@ use Rattle.graph.specs.Graph.{Lent, Sized}
 use Rattle.graph.specs.Stages.{Names}
 use Rattle.graph.specs.Check.{stages, cleared}
 use Rattle.graph.specs.WellFormed.{WellFormed}
-use Rattle.rows.specs.Rows.{larger}
-use Rattle.graph.specs.Pair.{SizedTwo}
 
 -- what is lent has right sizes, and is well-formed; `fault p`: p names the first fault; `good`: no argument is wrong; `room`: there is room for what the call would write.
 -- "Checks run in this order": each case says that those before it do not hold
@@ -39,10 +36,3 @@ pub record Answered (sizes formed : Type 0) (fault : Given → Type 0) (good roo
 -- of one graph, with `own`: the slices that the call has beside it are of right sizes
 abbrev pub Answers : Bool → Bool → Bool → Lent → List ℕ → Given → List ℕ → Type 0
 Answers own good room g marks = Answered ((own ≡ true) × Sized g (length marks)) (WellFormed g) (Names (stages g)) good room (g .counts .rows) marks
-
--- "2 and 3 for the first (`self`), then for the second"
-abbrev pub FaultOfTwo : Lent → Lent → Given → Type 0
-FaultOfTwo a b p = Names (stages a) p ⊎ (WellFormed a × Names (stages b) p)
-
-abbrev pub AnswersTwo : Bool → Bool → Lent → Lent → List ℕ → Given → List ℕ → Type 0
-AnswersTwo good room a b marks = Answered (SizedTwo a b (length marks)) (WellFormed a × WellFormed b) (FaultOfTwo a b) good room (larger (a .counts .rows) (b .counts .rows)) marks

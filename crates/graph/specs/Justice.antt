@@ -1,6 +1,6 @@
 -- List 6: sets of edges, given as ends in one list. Set s is the edges from the end before, or 0, up to its end.
 -- Assumes nothing.
-use Prim.Native.Nat.{ℕ, _+_, _-_, _≤_, _<_}
+use Prim.Native.Nat.{ℕ, _+_, _-_}
 use mathlib.Core.List.{List, _∷_}
 use mathlib.Core.Bool.{Bool, not, _&&_, _||_}
 use lib.ListN.{getD}
@@ -33,9 +33,3 @@ setOf ends sets k = foundOr sets (firstBad (λ (s : ℕ). leb (getD ends s 0) k)
 -- "there the index is the set's and the second is 1 + the position in the set"
 abbrev pub edgePlace : List ℕ → ℕ → ℕ → Given
 edgePlace ends sets k = given 3 6 (setOf ends sets k) (1 + (k - start ends (setOf ends sets k)))
-
--- edge k lies in set s; `in-set` of proofs/Sets.antt says that it does in `setOf`, where all ends are good
-pub record InSet (ends : List ℕ) (sets k s : ℕ) : Type 0 where
-  pub a-set : s < sets
-  pub from : start ends s ≤ k
-  pub below : k < getD ends s 0

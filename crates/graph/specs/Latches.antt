@@ -3,6 +3,7 @@
 use Prim.Native.Nat.{ℕ, zero, suc, _+_, _*_, _/_}
 use mathlib.Core.List.{List, [], _∷_, _++_}
 use lib.ListN.{length, getD, set}
+use Rattle.rows.specs.Rows.{none}
 use Rattle.graph.specs.declared.latch.Latch.{Latch}
 
 -- how many words a latch has
@@ -12,12 +13,23 @@ latchWords = 3
 abbrev pub latchesLent : List ℕ → ℕ
 latchesLent latches = length latches / latchWords
 
+-- a new latch
 abbrev pub latch : ℕ → ℕ → ℕ → Latch
 latch input next init = record { input = input; next = next; init = init }
 
+-- the latch with another input and other edges: whatever else a latch has stays
+abbrev pub withEdges : Latch → ℕ → ℕ → ℕ → Latch
+withEdges l input next init = record { input = input; next = next; init = init }
+
+abbrev pub withNext : Latch → ℕ → Latch
+withNext l next = withEdges l (l .input) next (l .init)
+
+abbrev pub withoutInit : Latch → Latch
+withoutInit l = withEdges l (l .input) (l .next) none
+
 abbrev pub latchAt : List ℕ → ℕ → Latch
 latchAt latches i =
-    latch (getD latches (latchWords * i) 0) (getD latches (latchWords * i + 1) 0) (getD latches (latchWords * i + 2) 0)
+    record { input = getD latches (latchWords * i) 0; next = getD latches (latchWords * i + 1) 0; init = getD latches (latchWords * i + 2) 0 }
 
 -- latch i is written: its words stand where `latchAt` reads them
 unfoldable pub latchSet : List ℕ → ℕ → Latch → List ℕ

@@ -41,7 +41,3 @@ goodLatch rows used listed latches i =
 -- ---- the marks say which rows are listed: a mark that is not 0 stands for a listed row
 abbrev pub Marks : ℕ → List ℕ → List ℕ → Type 0
 Marks used listed marks = (x : ℕ) → x < used → eqb (getD marks x 0) 0 ≡ not (member x listed)
-
--- `freeLeaf`, by the marks
-unfoldable pub unmarkedLeaf : List ℕ → ℕ → List ℕ → ℕ → Bool
-unmarkedLeaf rows used marks x = ltb x used && leafAt rows x && eqb (getD marks x 0) 0

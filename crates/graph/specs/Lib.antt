@@ -4,8 +4,9 @@ pub mod Count
 pub mod Latches
 pub mod Leaves
 pub mod Justice
+pub mod Sets
 pub mod Graph
 pub mod Check
 pub mod WellFormed
-pub mod Pair
 pub mod Exactly
+pub mod Steps

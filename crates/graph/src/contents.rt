@@ -1,13 +1,15 @@
-// Answers 2 and 3.
+// Answers 2 and 3, stage by stage. A further stage goes behind the lists: there the marks stand for every listed leaf still.
 ghost use mathlib.Core.Path.{_≡_};
 ghost use mathlib.Core.Bool.{true};
+ghost use mathlib.Core.List.{[]};
 ghost use Prim.Native.Nat.{_*_, _≤_};
-ghost use lib.ListN.{length};
+ghost use lib.ListN.{length, drop};
 ghost use Rattle.edge.specs.Answers.{told};
 ghost use Rattle.rows.specs.Rows.{rowAt};
 ghost use Rattle.graph.specs.Search.{firstBad};
 ghost use Rattle.graph.specs.Stages.{firstFault};
-ghost use Rattle.graph.specs.Graph.{lent, sizesRight};
+ghost use Rattle.graph.specs.Leaves.{Marks};
+ghost use Rattle.graph.specs.Graph.{lent, sizesRight, Sized};
 ghost use Rattle.graph.specs.Check.{listStages, contents, cleared};
 use crate::Counts;
 use crate::justice::check_justice;
@@ -20,7 +22,7 @@ use edge::Answer;
 use rows::kinds::is_row;
 
 // The smallest used row that is none of the three kinds at its place.
-fn first_bad_row(rows: &[u32], used: usize) -> Found
+pub fn first_bad_row(rows: &[u32], used: usize) -> Found
     requires { ⌜ 2 * used ≤ length (now rows) ⌝ }
     ensures { λ r. ⌜ r ≡ firstBad (rowAt (now (rows .entry))) 0 used ⌝ }
 {
@@ -33,7 +35,7 @@ fn first_bad_row(rows: &[u32], used: usize) -> Found
 }
 
 // Lists 3 to 7: the edges.
-fn check_lists(
+pub fn check_lists(
     constraints: &[u32],
     bads: &[u32],
     outputs: &[u32],
@@ -69,6 +71,39 @@ fn check_lists(
     }
 }
 
+// The stages in their order, on cleared marks.
+fn check_stages(
+    rows: &[u32],
+    inputs: &[u32],
+    latches: &[u32],
+    constraints: &[u32],
+    bads: &[u32],
+    outputs: &[u32],
+    ends: &[u32],
+    edges: &[u32],
+    fairness: &[u32],
+    counts: Counts,
+    marks: &mut [u32],
+) -> Answer
+    requires { ⌜ Sized (lent (now rows) (now inputs) (now latches) (now constraints) (now bads) (now outputs) (now ends) (now edges) (now fairness) counts) (length (now marks)) ⌝ }
+    requires { ⌜ Marks (counts .rows) [] (now marks) ⌝ }
+    ensures { λ r. ⌜
+        told r
+        ≡ contents (lent (now (rows .entry)) (now (inputs .entry)) (now (latches .entry)) (now (constraints .entry)) (now (bads .entry)) (now (outputs .entry)) (now (ends .entry)) (now (edges .entry)) (now (fairness .entry)) counts)
+        ⌝ }
+    ensures { λ r. ⌜ drop (counts .rows) (now (marks .exit)) ≡ drop (counts .rows) (now (marks .entry)) ⌝ }
+{
+    match first_bad_row(rows, counts.rows) {
+        Found::At(i) => return Answer::BadRow(i),
+        Found::Nothing => {}
+    }
+    let leaves = check_leaves(rows, inputs, latches, counts, marks);
+    if !edge::is_done(leaves) {
+        return leaves;
+    }
+    check_lists(constraints, bads, outputs, ends, edges, fairness, counts)
+}
+
 // Answers 2 and 3, of a graph whose sizes are right.
 pub fn check_contents(
     rows: &[u32],
@@ -93,16 +128,20 @@ pub fn check_contents(
         ⌝ }
     ensures { λ r. ⌜ now (marks .exit) ≡ cleared (counts .rows) (now (marks .entry)) ⌝ }
 {
-    let used = counts.rows;
-    clear(marks, used);
-    match first_bad_row(rows, used) {
-        Found::At(i) => return Answer::BadRow(i),
-        Found::Nothing => {}
-    }
-    let leaves = check_leaves(rows, inputs, latches, counts, marks);
-    clear(marks, used);
-    if !edge::is_done(leaves) {
-        return leaves;
-    }
-    check_lists(constraints, bads, outputs, ends, edges, fairness, counts)
+    clear(marks, counts.rows);
+    let answer = check_stages(
+        rows,
+        inputs,
+        latches,
+        constraints,
+        bads,
+        outputs,
+        ends,
+        edges,
+        fairness,
+        counts,
+        marks,
+    );
+    clear(marks, counts.rows);
+    answer
 }

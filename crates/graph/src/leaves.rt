@@ -8,8 +8,10 @@ ghost use Rattle.edge.specs.Answers.{told};
 ghost use Rattle.graph.specs.Search.{firstBad};
 ghost use Rattle.graph.specs.Stages.{firstFault};
 ghost use Rattle.graph.specs.Latches.{latchWords};
-ghost use Rattle.graph.specs.Leaves.{latchEdges, goodInput, goodLatch, Marks, unmarkedLeaf};
+ghost use Rattle.graph.specs.Leaves.{latchEdges, goodInput, goodLatch, Marks};
+ghost use Rattle.graph.specs.Steps.{unmarkedLeaf};
 ghost use Rattle.graph.specs.Check.{leafStages};
+ghost use Rattle.graph.specs.WellFormed.{leafList};
 use crate::Counts;
 use crate::latch::Latch;
 use crate::latch::latch_at;
@@ -73,6 +75,7 @@ fn first_bad_latch(
     requires { ⌜ Marks used (take n (now inputs)) (now marks) ⌝ }
     ensures { λ r. ⌜ r ≡ firstBad (goodLatch (now (rows .entry)) used (take n (now (inputs .entry))) (now (latches .entry))) 0 m ⌝ }
     ensures { λ r. ⌜ drop used (now (marks .exit)) ≡ drop used (now (marks .entry)) ⌝ }
+    ensures { λ r. ⌜ (r ≡ Found.Nothing → Marks used (leafList (now (inputs .entry)) n (now (latches .entry)) m) (now (marks .exit))) ⌝ }
 {
     for i in 0..m {
         let l = latch_at(latches, i);
@@ -83,6 +86,7 @@ fn first_bad_latch(
     Found::Nothing
 }
 
+// Where all is good, the marks stand for every listed leaf.
 pub fn check_leaves(
     rows: &[u32],
     inputs: &[u32],
@@ -94,6 +98,7 @@ pub fn check_leaves(
     requires { ⌜ Marks (counts .rows) [] (now marks) ⌝ }
     ensures { λ r. ⌜ told r ≡ firstFault (leafStages (now (rows .entry)) (now (inputs .entry)) (now (latches .entry)) counts) ⌝ }
     ensures { λ r. ⌜ drop (counts .rows) (now (marks .exit)) ≡ drop (counts .rows) (now (marks .entry)) ⌝ }
+    ensures { λ r. ⌜ (told r .number ≡ 0 → Marks (counts .rows) (leafList (now (inputs .entry)) (counts .inputs) (now (latches .entry)) (counts .latches)) (now (marks .exit))) ⌝ }
 {
     let used = counts.rows;
     match first_bad_input(rows, used, inputs, counts.inputs, marks) {

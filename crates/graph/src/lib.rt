@@ -1,15 +1,13 @@
 // A graph as it is lent, and the check of it that every call on a whole graph begins with: answers 1, 2 and 3 of document 01.
-mod contents;
+pub mod contents;
 mod justice;
 pub mod latch;
 pub mod leaves;
 pub mod lists;
 pub mod marks;
 pub mod search;
-mod sizes;
-mod two;
+pub mod sizes;
 
-pub use two::check_two;
 ghost use mathlib.Core.Path.{_≡_};
 ghost use Rattle.graph.specs.Graph.{lent, noCounts};
 ghost use Rattle.graph.specs.Check.{checkSeen, checkCall};

@@ -7,9 +7,9 @@ use mathlib.Core.Bool.{Bool, false}
 use Rattle.edge.specs.declared.answer.Given.{Given}
 use Rattle.graph.specs.declared.Counts.{Counts}
 use Rattle.graph.specs.Graph.{Lent}
-use Rattle.lend_words.specs.Words.{countWords}
-use Rattle.build.specs.Calls.{Seen as BuiltSeen}
-use Rattle.build.specs.Nodes.{pairCall, eqCall}
+use Rattle.sulandiro_words.specs.Words.{countWords}
+use Rattle.build_leaves.specs.Calls.{Seen as BuiltSeen}
+use Rattle.build_nodes.specs.Nodes.{pairCall, eqCall}
 use Rattle.ternary.specs.Calls.{RunSeen, runCall}
 use Rattle.cnf.specs.Call.{CnfSeen, cnfCall}
 use Rattle.renumber.specs.Seen.{RebuiltSeen}
@@ -78,10 +78,10 @@ pub record Case : Type 0 where
 abbrev pub case : ℕ → Call → Seen → Case
 case mark call expected = record { mark = mark; call = call; expected = expected }
 
-abbrev pub Holds : Case → Type 0
-Holds c = seenOf (c .call) ≡ c .expected
+abbrev pub CaseHolds : Case → Type 0
+CaseHolds c = seenOf (c .call) ≡ c .expected
 
 -- each case of the list holds
 abbrev pub EachHolds : List Case → Type 0
 EachHolds [] = Unit {0}
-EachHolds (c ∷ cs) = Holds c × EachHolds cs
+EachHolds (c ∷ cs) = CaseHolds c × EachHolds cs

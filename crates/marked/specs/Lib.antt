@@ -1,4 +1,5 @@
 pub mod Cases
 pub mod Table
+pub mod Marked
 pub mod Words
 pub mod Same

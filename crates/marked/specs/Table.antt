@@ -8,10 +8,10 @@ use Rattle.edge.specs.Answers.{done, noRoom}
 use Rattle.rows.specs.Rows.{none}
 use Rattle.graph.specs.declared.Counts.{Counts}
 use Rattle.graph.specs.Graph.{Lent, lent}
-use Rattle.lend_words.specs.Words.{countsOf, countWords}
-use Rattle.ternary.specs.Codes.{unknown}
+use Rattle.sulandiro_words.specs.Words.{countsFrom, countWords}
+use Rattle.ternary_run.specs.Codes.{unknown}
 use Rattle.cnf.specs.Examples.{table as rowsOf, graphOf, X}
-use Rattle.marked.specs.Cases.{Call, newAnd, newEq, simulate, clauses, reencode, unroll, Seen, seen, listsOf, Case, case, EachHolds}
+use Rattle.marked.specs.Cases.{Call, newAnd, newEq, simulate, clauses, reencode, unroll, Seen, seen, listsOf, Case, case}
 
 abbrev sevens : ℕ → List ℕ
 sevens n = replicate n 7
@@ -21,7 +21,7 @@ zeros n = replicate n 0
 
 -- ---- constructors: so many rows are used and nothing is listed
 abbrev usedRows : ℕ → Counts
-usedRows n = countsOf n 0 0 0 0 0 0 0 0
+usedRows n = countsFrom n 0 0 0 0 0 0 0 0
 
 -- so many rows are used afterwards, this edge was made, and the rows are these
 abbrev built : ℕ → ℕ → List ℕ → Seen
@@ -49,11 +49,11 @@ rebuilt g marks = seen done (countWords (g .counts)) (listsOf g ++ (marks ∷ []
 
 -- "leaves 1, 2, inputs 2, latch (1, 4, 5)": three rows, one input, one latch
 abbrev mixed : List ℕ → List ℕ → List ℕ → Lent
-mixed rows inputs latches = oneLatch rows inputs latches (countsOf 3 1 1 0 0 0 0 0 0)
+mixed rows inputs latches = oneLatch rows inputs latches (countsFrom 3 1 1 0 0 0 0 0 0)
 
 -- "latch 1 with next 3": row 0 and leaf 1, with these words behind them; its init is none
 abbrev latch1 : List ℕ → ℕ → Lent
-latch1 words next = oneLatch (rowsOf 1 words) [] (1 ∷ next ∷ none ∷ []) (countsOf 2 0 1 0 0 0 0 0 0)
+latch1 words next = oneLatch (rowsOf 1 words) [] (1 ∷ next ∷ none ∷ []) (countsFrom 2 0 1 0 0 0 0 0 0)
 
 unfoldable pub table : List Case
 table =
@@ -91,7 +91,3 @@ table =
     -- "M13 latch 1 with next 3: one unroll makes next 2, no row"
     ∷ case 13 (unroll (latch1 (sevens 2) 3) (latch1 [] 3) (sevens 2)) (rebuilt (latch1 (sevens 2) 2) (zeros 2))
     ∷ []
-
--- M1 to M13 hold, together
-abbrev pub EveryCaseHolds : Type 0
-EveryCaseHolds = EachHolds table

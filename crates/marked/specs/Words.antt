@@ -6,8 +6,8 @@ use mathlib.Core.Bool.{cond}
 use mathlib.Core.Path.{_≡_}
 use lib.ListN.{length}
 use Rattle.edge.specs.Answers.{determined}
-use Rattle.lend_words.specs.Words.{givenWords, countWords}
-use Rattle.shapes.specs.Shapes.{words}
+use Rattle.sulandiro_words.specs.Words.{givenWords, countWords}
+use Rattle.gate_clauses.specs.Shapes.{words}
 use Rattle.marked.specs.Cases.{Call, newAnd, newEq, simulate, clauses, reencode, unroll, listsOf, Case}
 use Rattle.marked.specs.Table.{table}
 

@@ -15,11 +15,11 @@ use crate::seen::put_bytes;
 use crate::seen::put_list;
 use crate::seen::put_words;
 use crate::seen::word_of;
-use build::Built;
+use build_leaves::Built;
 use cnf::ClausesAnswer;
 use edge::Answer;
 
-// `build::new_and_node`, 51, and `build::new_eq_node`, 59: the rows are lent.
+// `build_nodes::new_and_node`, 51, and `build_nodes::new_eq_node`, 59: the rows are lent.
 pub fn built(case: &[u32], call: u32, room: &mut [u32]) -> usize {
     let mut rows = [0u32; 16];
     let n = copied(list(case, 2), &mut rows);
@@ -46,9 +46,9 @@ fn node(call: u32, scalars: &[u32], rows: &mut [u32], n: usize) -> Built
     let a = word(scalars, 9);
     let b = word(scalars, 10);
     if call == 51 {
-        return build::new_and_node(&mut rows[0..n], used, a, b);
+        return build_nodes::new_and_node(&mut rows[0..n], used, a, b);
     }
-    build::new_eq_node(&mut rows[0..n], used, a, b)
+    build_nodes::new_eq_node(&mut rows[0..n], used, a, b)
 }
 
 // `ternary::ternary_simulate`: lists 11 to 14 are the codes of inputs and of latches, the values and the marks.

@@ -17,12 +17,13 @@ use Rattle.graph.specs.Graph.{Lent, lent}
 use Rattle.graph.specs.Check.{cleared, CheckSeen, checkSeen}
 use Rattle.graph.specs.WellFormed.{WellFormed}
 use Rattle.rows.specs.Rows.{larger}
-use Rattle.graph.specs.Pair.{checkTwoCall, SizedTwo}
-use Rattle.graph.proofs.Pairing.{cleared-fewer, larger-second, exact-two}
+use Rattle.two_graphs.specs.Pair.{checkTwoCall, SizedTwo}
+use Rattle.two_graphs.proofs.Pair.{cleared-fewer, larger-second, exact-two}
 use Rattle.renumber.specs.declared.Rebuilt.{Rebuilt}
-use Rattle.renumber.specs.Room.{hasRoom}
-use Rattle.renumber.proofs.Fitting.{roomy, room-true}
-use Rattle.merge.specs.Merge.{summed, merged, MergeLent, Addable}
+use Rattle.output.specs.Room.{hasRoom}
+use Rattle.output.proofs.Fitting.{roomy, room-true}
+use Rattle.merge.specs.Merge.{summed, merged, MergeLent}
+use Rattle.merge.specs.Steps.{Addable}
 use Rattle.renumber.specs.Seen.{rebuiltSeen}
 use Rattle.merge.specs.Call.{mergeChecked, mergeCall}
 use Rattle.merge.proofs.Ready.{addable}

@@ -14,10 +14,10 @@ use Rattle.graph.specs.Leaves.{member, freeLeaf, latchEdges}
 use Rattle.graph.specs.Justice.{endIs, setOf}
 use Rattle.graph.specs.Graph.{Lent, lent, sizesRight}
 use Rattle.graph.specs.Check.{contents}
-use Rattle.graph.specs.Pair.{checkTwoCall}
-use Rattle.renumber.specs.Writing.{written}
+use Rattle.two_graphs.specs.Pair.{checkTwoCall}
+use Rattle.output.specs.Writing.{written}
 use Rattle.renumber.specs.Renumber.{renamed, renamedLatch, latchesWritten, renumber}
-use Rattle.renumber.specs.Room.{roomOf}
+use Rattle.output.specs.Room.{fitsIn}
 use Rattle.merge.specs.Merge.{shifted, summed, merged}
 use Rattle.merge.specs.Call.{mergeChecked, mergeCall}
 
@@ -40,10 +40,12 @@ rows-inputs-and-init : mergeCall ours theirs (9 ∷ 9 ∷ 9 ∷ 9 ∷ [])
       graph = lent (falseWord ∷ 0 ∷ none ∷ 0 ∷ 2 ∷ 3 ∷ none ∷ 0 ∷ none ∷ 0 ∷ []) (1 ∷ 4 ∷ []) (3 ∷ 8 ∷ 9 ∷ []) [] [] [] (1 ∷ 2 ∷ []) (4 ∷ 7 ∷ []) [] (counts 5 2 1 2);
       marks = 0 ∷ 0 ∷ 0 ∷ 9 ∷ [];
     }
-unfolding mergeCall mergeChecked checkTwoCall larger sizesRight rowsFit fits contents firstFault firstBad isRow isFalseRow isLeaf isGate freeLeaf member latchInputs latchEdges endIs setOf orElse roomOf merged written renamed renamedLatch latchesWritten latchSet renumber shifted summed
+unfolding mergeCall mergeChecked checkTwoCall larger sizesRight rowsFit fits contents firstFault firstBad isRow isFalseRow isLeaf isGate freeLeaf member latchInputs latchEdges endIs setOf
+    orElse fitsIn merged written renamed renamedLatch latchesWritten latchSet renumber shifted summed
 rows-inputs-and-init = refl
 
 -- the other way round there is no room, and nothing is changed
 no-room-behind : mergeCall theirs ours (9 ∷ 9 ∷ 9 ∷ 9 ∷ []) ≡ record { given = noRoom; graph = theirs; marks = 0 ∷ 0 ∷ 0 ∷ 9 ∷ [] }
-unfolding mergeCall mergeChecked checkTwoCall larger sizesRight rowsFit fits contents firstFault firstBad isRow isFalseRow isLeaf isGate freeLeaf member latchInputs latchEdges endIs setOf orElse roomOf merged written renamed renamedLatch latchesWritten latchSet renumber shifted summed
+unfolding mergeCall mergeChecked checkTwoCall larger sizesRight rowsFit fits contents firstFault firstBad isRow isFalseRow isLeaf isGate freeLeaf member latchInputs latchEdges endIs setOf
+    orElse fitsIn merged written renamed renamedLatch latchesWritten latchSet renumber shifted summed
 no-room-behind = refl

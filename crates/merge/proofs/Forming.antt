@@ -22,7 +22,8 @@ use Rattle.graph.proofs.Listed.{all-long, input-at, latch-at}
 use Rattle.renumber.specs.Renumber.{renamed, renamedLatch, idsOf, listsOf, renumber}
 use Rattle.renumber.specs.Entries.{SameEntries, Renumbered}
 use Rattle.renumber.specs.Kept.{SameBefore, ListsKept}
-use Rattle.renumber.proofs.Writing.{written-length, latches-length, written-before, written-at}
+use Rattle.output.proofs.Writing.{written-length, written-before, written-at}
+use Rattle.renumber.proofs.Writing.{latches-length}
 use Rattle.renumber.proofs.Entering.{renumbered}
 use Rattle.renumber.proofs.Keeping.{lists-kept, renamed-used, entries-used}
 use Rattle.merge.specs.Merge.{shifted, offset, summed, merged, MergeLent}
@@ -49,7 +50,8 @@ listed-leaf g marks s w k l = ⊎-elim in-inputs in-latches (lt-or-le k (g .coun
     in-latches h =
         let e : k ≡ g .counts .inputs + (k - g .counts .inputs) = omega arith in
         let i : k - g .counts .inputs < g .counts .latches = omega (arith, long) in
-        rw (ap (λ (x : ℕ). getD (listed g) x 0) e ∙ latch-at (g .inputs) (g .counts .inputs) (g .latches) (g .counts .latches) (s .inputs .within) (k - g .counts .inputs) i) (w .latches (k - g .counts .inputs) i)
+        rw (ap (λ (x : ℕ). getD (listed g) x 0) e ∙ latch-at (g .inputs) (g .counts .inputs) (g .latches) (g .counts .latches) (s .inputs .within) (k - g .counts .inputs) i)
+        (w .latches (k - g .counts .inputs) i)
 
 -- and stands at one place
 one-place : (g : Lent) → WellFormed g → (p q : ℕ) → p < length (listed g) → q < length (listed g) → getD (listed g) p 0 ≡ getD (listed g) q 0 → p ≡ q
@@ -125,13 +127,10 @@ module _ (a b : Lent) (marks : ℕ) (l : MergeLent a b marks) where
 
   inputs-leaves : (i : ℕ) → i < a .counts .inputs + b .counts .inputs → UsedLeaf g (getD (g .inputs) i 0)
   inputs-leaves i h =
-      ⊎-elim
-      (λ (k : i < a .counts .inputs). rw (first-inputs i k) (first-used-leaf (getD (a .inputs) i 0) (l .first .inputs i k)))
-      (λ (k : a .counts .inputs ≤ i).
-      let e : i ≡ a .counts .inputs + (i - a .counts .inputs) = omega arith in
-      let j : i - a .counts .inputs < b .counts .inputs = omega arith in
-      rw (ap (λ (x : ℕ). getD (g .inputs) x 0) e ∙ second-inputs (i - a .counts .inputs) j) (second-used-leaf (getD (b .inputs) (i - a .counts .inputs) 0) (l .second .inputs (i - a .counts .inputs) j)))
-      (lt-or-le i (a .counts .inputs))
+      ⊎-elim (λ (k : i < a .counts .inputs). rw (first-inputs i k) (first-used-leaf (getD (a .inputs) i 0) (l .first .inputs i k)))
+      (λ (k : a .counts .inputs ≤ i). let e : i ≡ a .counts .inputs + (i - a .counts .inputs) = omega arith in let j : i - a .counts .inputs < b .counts .inputs = omega arith in rw
+      (ap (λ (x : ℕ). getD (g .inputs) x 0) e ∙ second-inputs (i - a .counts .inputs) j)
+      (second-used-leaf (getD (b .inputs) (i - a .counts .inputs) 0) (l .second .inputs (i - a .counts .inputs) j))) (lt-or-le i (a .counts .inputs))
 
   -- ---- latches
   -- latch i is one of the first, or one of the second under the map
@@ -152,12 +151,14 @@ module _ (a b : Lent) (marks : ℕ) (l : MergeLent a b marks) where
   latch-inputs : (i : ℕ) → i < a .counts .latches + b .counts .latches → UsedLeaf g (latchAt (g .latches) i .input)
   unfolding renamedLatch
   latch-inputs =
-      latch-from (λ (x : Latch). UsedLeaf g (x .input)) (λ i h. first-used-leaf (latchAt (a .latches) i .input) (l .first .latches i h)) (λ i h. second-used-leaf (latchAt (b .latches) i .input) (l .second .latches i h))
+      latch-from (λ (x : Latch). UsedLeaf g (x .input)) (λ i h. first-used-leaf (latchAt (a .latches) i .input) (l .first .latches i h))
+      (λ i h. second-used-leaf (latchAt (b .latches) i .input) (l .second .latches i h))
 
   nexts : (i : ℕ) → i < a .counts .latches + b .counts .latches → idOf (latchAt (g .latches) i .next) < g .counts .rows
   unfolding renamedLatch
   nexts =
-      latch-from (λ (x : Latch). idOf (x .next) < g .counts .rows) (λ i h. still (idOf (latchAt (a .latches) i .next)) (l .first .nexts i h)) (λ i h. edge-used (latchAt (b .latches) i .next) (l .second .nexts i h))
+      latch-from (λ (x : Latch). idOf (x .next) < g .counts .rows) (λ i h. still (idOf (latchAt (a .latches) i .next)) (l .first .nexts i h))
+      (λ i h. edge-used (latchAt (b .latches) i .next) (l .second .nexts i h))
 
   -- an init, where there is one
   abbrev Init : Latch → Type 0
@@ -267,7 +268,9 @@ module _ (a b : Lent) (marks : ℕ) (l : MergeLent a b marks) where
           let e : k ≡ a .counts .inputs + q = omega arith in
           let u : q < b .counts .inputs = omega arith in
           new q (omega (arith, long-second)) (rw (lt-ltb q (b .counts .inputs) u) e)
-          (here ∙ (ap (λ (x : ℕ). getD (g .inputs) x 0) e ∙ (second-inputs q u ∙ ap m (sym (input-at (b .inputs) (b .counts .inputs) (b .latches) (b .counts .latches) (l .sized .second .inputs .within) q u)))))
+          (here ∙
+          (ap (λ (x : ℕ). getD (g .inputs) x 0) e ∙
+          (second-inputs q u ∙ ap m (sym (input-at (b .inputs) (b .counts .inputs) (b .latches) (b .counts .latches) (l .sized .second .inputs .within) q u)))))
 
   from-latch : (i : ℕ) → i < a .counts .latches + b .counts .latches → From (a .counts .inputs + b .counts .inputs + i)
   unfolding first-place second-place renamedLatch
@@ -287,7 +290,10 @@ module _ (a b : Lent) (marks : ℕ) (l : MergeLent a b marks) where
           let e : i ≡ a .counts .latches + j = omega arith in
           let u : j < b .counts .latches = omega arith in
           new (b .counts .inputs + j) (omega (arith, long-second)) (rw (le-ltb (b .counts .inputs + j) (b .counts .inputs) (omega arith)) (omega arith))
-          (here ∙ (ap (λ (x : ℕ). latchAt (g .latches) x .input) e ∙ (ap (λ (x : Latch). x .input) (second-lists .latches j u) ∙ ap m (sym (latch-at (b .inputs) (b .counts .inputs) (b .latches) (b .counts .latches) (l .sized .second .inputs .within) j u)))))
+          (here ∙
+          (ap (λ (x : ℕ). latchAt (g .latches) x .input) e ∙
+          (ap (λ (x : Latch). x .input) (second-lists .latches j u) ∙ ap m
+          (sym (latch-at (b .inputs) (b .counts .inputs) (b .latches) (b .counts .latches) (l .sized .second .inputs .within) j u)))))
 
   from : (k : ℕ) → k < length all → From k
   from k h =
@@ -330,11 +336,13 @@ module _ (a b : Lent) (marks : ℕ) (l : MergeLent a b marks) where
         once = once;
         nexts = nexts;
         inits = inits;
-        constraints = edges-used (a .constraints) (g .constraints) (b .constraints) (a .counts .constraints) (b .counts .constraints) (first-lists .constraints) (second-lists .constraints) (l .first .constraints) (l .second .constraints);
+        constraints = edges-used (a .constraints) (g .constraints) (b .constraints) (a .counts .constraints) (b .counts .constraints) (first-lists .constraints) (second-lists .constraints)
+            (l .first .constraints) (l .second .constraints);
         bads = edges-used (a .bads) (g .bads) (b .bads) (a .counts .bads) (b .counts .bads) (first-lists .bads) (second-lists .bads) (l .first .bads) (l .second .bads);
         outputs = edges-used (a .outputs) (g .outputs) (b .outputs) (a .counts .outputs) (b .counts .outputs) (first-lists .outputs) (second-lists .outputs) (l .first .outputs) (l .second .outputs);
         edges = edges-used (a .edges) (g .edges) (b .edges) (a .counts .edges) (b .counts .edges) (first-lists .edges) (second-lists .edges) (l .first .edges) (l .second .edges);
-        fairness = edges-used (a .fairness) (g .fairness) (b .fairness) (a .counts .fairness) (b .counts .fairness) (first-lists .fairness) (second-lists .fairness) (l .first .fairness) (l .second .fairness);
+        fairness = edges-used (a .fairness) (g .fairness) (b .fairness) (a .counts .fairness) (b .counts .fairness) (first-lists .fairness) (second-lists .fairness) (l .first .fairness)
+            (l .second .fairness);
         ends = rise;
         last = last;
         no-sets = no-sets;

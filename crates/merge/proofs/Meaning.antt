@@ -6,8 +6,9 @@ use lib.ListN.{length}
 use borrow.Author.Tests.{eq-eqb, ne-eqb}
 use Rattle.edge.specs.declared.answer.Given.{Given}
 use Rattle.graph.specs.Graph.{Lent}
-use Rattle.graph.proofs.Exactly.{room-answers, two-refused, check-two-answers}
-use Rattle.renumber.specs.Room.{hasRoom}
+use Rattle.graph.proofs.Exactly.{room-answers}
+use Rattle.two_graphs.proofs.Exactly.{two-refused, check-two-answers}
+use Rattle.output.specs.Room.{hasRoom}
 use Prim.Native.Nat.{ℕ}
 use Rattle.merge.specs.Merge.{offset, summed, merged, MergeLent}
 use Rattle.merge.specs.Call.{mergeChecked, mergeCall}

@@ -18,14 +18,16 @@ use Rattle.rows.specs.Rows.{none}
 use Rattle.graph.specs.declared.Counts.{Counts}
 use Rattle.graph.specs.Graph.{Lent, Sized}
 use Rattle.graph.specs.Check.{cleared}
-use Rattle.renumber.specs.Writing.{written}
-use Rattle.renumber.specs.Renumber.{renamed, edgesOf, idsOf, Lists, listsOf, renumber, graphOf, by, IdsReady, ListsReady}
-use Rattle.renumber.specs.Map.{Holds, Small, ListsRoom}
-use Rattle.renumber.specs.Room.{Room}
-use Rattle.renumber.proofs.Writing.{written-turn, written-same, written-at, written-drop}
+use Rattle.output.specs.Writing.{written}
+use Rattle.renumber.specs.Renumber.{renamed, edgesOf, idsOf, Lists, listsOf, renumber, graphOf, by}
+use Rattle.renumber.specs.Steps.{IdsReady, ListsReady}
+use Rattle.renumber.specs.Steps.{MarksHold, Small, ListsRoom}
+use Rattle.output.specs.Room.{Room}
+use Rattle.output.proofs.Writing.{written-turn, written-same, written-at, written-drop}
 use Rattle.renumber.proofs.Mapping.{lists-used, renumber-by, known, lists-ready}
 use Rattle.renumber.proofs.Rowing.{Reaches, words-reach}
-use Rattle.merge.specs.Merge.{shifted, offset, summed, merged, MergeLent, Addable, Movable, RowsReady}
+use Rattle.merge.specs.Merge.{shifted, offset, summed, merged, MergeLent}
+use Rattle.merge.specs.Steps.{Addable, Movable, RowsReady}
 
 -- ---- counts of right sizes can be added
 pub addable : (g : Lent) (marks : ℕ) → Sized g marks → Addable (g .counts)
@@ -104,7 +106,7 @@ pub filled-turn : (f : ℕ → ℕ) (marks : List ℕ) (j : ℕ) {now : List ℕ
 filled-turn f marks j {now} {v} e w = let z : 0 + j ≡ j = omega arith in ap (λ (k : ℕ). set now k v) (sym z) ∙ written-turn marks 0 f j e w
 
 -- the marks hold it
-pub filled : (f : ℕ → ℕ) (n : ℕ) (marks : List ℕ) {map : List ℕ} → map ≡ written marks 0 f n → n ≤ length marks → Holds n f map
+pub filled : (f : ℕ → ℕ) (n : ℕ) (marks : List ℕ) {map : List ℕ} → map ≡ written marks 0 f n → n ≤ length marks → MarksHold n f map
 filled f n marks {map} e h x l =
     let z : 0 + x ≡ x = omega arith in
     ap (λ (m : List ℕ). getD m x 0) e ∙ (ap (λ (k : ℕ). getD (written marks 0 f n) k 0) (sym z) ∙ written-at marks 0 f n x (omega arith) l)
@@ -150,7 +152,7 @@ module _ (a b : Lent) (marks : ℕ) (l : MergeLent a b marks) where
         movable = λ j k. movable (getD (drop 2 (b .rows)) j 0) (reach j k);
       }
 
-  module _ (map : List ℕ) (h : Holds used m map) where
+  module _ (map : List ℕ) (h : MarksHold used m map) where
     pub inputs-by : written (a .inputs) (a .counts .inputs) (idsOf (by map) (b .inputs)) (b .counts .inputs) ≡ written (a .inputs) (a .counts .inputs) (idsOf m (b .inputs)) (b .counts .inputs)
     inputs-by =
         written-same (a .inputs) (a .counts .inputs) (idsOf (by map) (b .inputs)) (idsOf m (b .inputs)) (b .counts .inputs)
@@ -175,7 +177,7 @@ module _ (a b : Lent) (marks : ℕ) (l : MergeLent a b marks) where
           (omega (arith, l .sized .first .edges .within, l .sized .first .edges .limited))
 
   -- ---- the whole
-  pub whole : (map : List ℕ) → Holds used m map → {rows inputs : List ℕ} {ls : Lists}
+  pub whole : (map : List ℕ) → MarksHold used m map → {rows inputs : List ℕ} {ls : Lists}
       → rows ≡ written (a .rows) (2 * a .counts .rows) (edgesOf m (drop 2 (b .rows))) behind
       → inputs ≡ written (a .inputs) (a .counts .inputs) (idsOf (by map) (b .inputs)) (b .counts .inputs)
       → ls ≡ renumber (by map) (listsOf a) (a .counts) (listsOf b) (b .counts)

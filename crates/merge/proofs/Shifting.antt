@@ -21,7 +21,7 @@ use Rattle.graph.specs.Graph.{Lent}
 use Rattle.renumber.specs.Renumber.{renamed, edgesOf}
 use Rattle.renumber.specs.Kept.{SameBefore}
 use Rattle.renumber.specs.Meaning.{Carried, SameValues}
-use Rattle.renumber.proofs.Writing.{written-before, written-at}
+use Rattle.output.proofs.Writing.{written-before, written-at}
 use Rattle.renumber.proofs.Carrying.{renamed-edge, same-values}
 use Rattle.renumber.proofs.Rowing.{leaf-or-gate, leaf-words}
 use Rattle.merge.specs.Merge.{shifted, offset, summed, merged, MergeLent}
@@ -123,7 +123,9 @@ module _ (a b : Lent) (marks : ℕ) (l : MergeLent a b marks) where
   few-all = omega (arith, used-all, few a b marks l, some, some′)
 
   pub within : (i : ℕ) → i < used → m i < merged a b .counts .rows
-  within i h = ⊎-elim (λ (p : 0 < i). omega (arith, shifted-some (offset a) i p, used-all, some)) (λ (p : i ≤ 0). let z : i ≡ 0 = omega arith in omega (arith, ap m z, shifted-zero (offset a), used-all, some, some′)) (lt-or-le 0 i)
+  within i h =
+      ⊎-elim (λ (p : 0 < i). omega (arith, shifted-some (offset a) i p, used-all, some))
+      (λ (p : i ≤ 0). let z : i ≡ 0 = omega arith in omega (arith, ap m z, shifted-zero (offset a), used-all, some, some′)) (lt-or-le 0 i)
 
   pub behind : (i : ℕ) → 0 < i → a .counts .rows ≤ m i
   behind i p = omega (arith, shifted-some (offset a) i p, some)

@@ -8,10 +8,10 @@ use Rattle.edge.specs.Answers.{done, noRoom, orElse}
 use Rattle.rows.specs.Reading.{ifDone}
 use Rattle.graph.specs.Graph.{Lent}
 use Rattle.graph.specs.Check.{CheckSeen}
-use Rattle.graph.specs.Pair.{checkTwoCall}
+use Rattle.two_graphs.specs.Pair.{checkTwoCall}
 use Rattle.renumber.specs.declared.Rebuilt.{Rebuilt}
 use Rattle.renumber.specs.Seen.{RebuiltSeen, rebuiltSeen, SameRebuilt, rebuilt-determined}
-use Rattle.renumber.specs.Room.{hasRoom}
+use Rattle.output.specs.Room.{hasRoom}
 use Rattle.merge.specs.Merge.{summed, merged}
 
 -- the answer, and the marks: 1 for both, 2 and 3 of the first, then of the second; then 5, where "rows, list entries .. still free are fewer than the call needs"

@@ -1,3 +1,4 @@
 pub mod Merge
 pub mod Call
 pub mod Meaning
+pub mod Steps

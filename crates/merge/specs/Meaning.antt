@@ -8,8 +8,8 @@ use lib.ListN.{length, getD}
 use Rattle.rows.specs.Value.{value}
 use Rattle.graph.specs.Graph.{Lent, Sized}
 use Rattle.graph.specs.WellFormed.{WellFormed}
-use Rattle.graph.specs.Exactly.{AnswersTwo}
-use Rattle.renumber.specs.Room.{hasRoom}
+use Rattle.two_graphs.specs.Exactly.{AnswersTwo}
+use Rattle.output.specs.Room.{hasRoom}
 use Rattle.renumber.specs.Renumber.{listsOf}
 use Rattle.renumber.specs.Entries.{Renumbered}
 use Rattle.renumber.specs.Kept.{SameBefore, ListsKept}

@@ -1,21 +1,17 @@
 -- What `merge` writes: the rows and entries of a second graph, renumbered, behind those of the first.
 -- Assumes nothing.
-use Prim.Native.Nat.{ℕ, _+_, _-_, _*_, _≤_, _<_}
-use mathlib.Core.Path.{_≡_}
+use Prim.Native.Nat.{ℕ, _+_, _-_, _*_}
 use mathlib.Core.Bool.{cond}
-use mathlib.Core.List.{List}
-use lib.ListN.{length, getD, drop}
+use lib.ListN.{drop}
 use lib.Dec.{eqb}
-use Rattle.edge.specs.Edges.{idOf}
-use Rattle.rows.specs.Sizes.{maxRows}
 use Rattle.rows.specs.Rows.{none}
 use Rattle.graph.specs.declared.Counts.{Counts}
 use Rattle.graph.specs.Graph.{Lent}
 use Rattle.graph.specs.WellFormed.{WellFormed}
-use Rattle.graph.specs.Pair.{SizedTwo}
-use Rattle.renumber.specs.Writing.{written}
+use Rattle.two_graphs.specs.Pair.{SizedTwo}
+use Rattle.output.specs.Writing.{written}
 use Rattle.renumber.specs.Renumber.{edgesOf, idsOf, listsOf, renumber, graphOf}
-use Rattle.renumber.specs.Room.{Room}
+use Rattle.output.specs.Room.{Room}
 
 -- "`merge` adds used−1 to ids other than 0": the two have row 0 in common, and the other rows of the second follow the used rows of the first
 unfoldable pub shifted : ℕ → ℕ → ℕ
@@ -54,27 +50,3 @@ pub record MergeLent (a b : Lent) (marks : ℕ) : Type 0 where
   pub first : WellFormed a
   pub second : WellFormed b
   pub room : Room a (summed (a .counts) (b .counts))
-
--- an edge that is a word `by` rows further, or none
-abbrev pub Movable : ℕ → ℕ → Type 0
-Movable by e = (e ≡ none → ⊥) → idOf e + by ≤ maxRows
-
--- n words of rows can be moved, and there is room for them from `at` on
-pub record RowsReady (by : ℕ) (out : List ℕ) (at : ℕ) (list : List ℕ) (n : ℕ) : Type 0 where
-  pub room : at + n ≤ length out
-  pub has : n ≤ length list
-  pub small : by ≤ maxRows
-  pub movable : (j : ℕ) → j < n → Movable by (getD list j 0)
-
--- counts that can be added
-pub record Addable (n : Counts) : Type 0 where
-  pub some-row : 1 ≤ n .rows
-  pub rows : n .rows ≤ maxRows
-  pub inputs : n .inputs ≤ maxRows
-  pub latches : n .latches ≤ maxRows
-  pub constraints : n .constraints ≤ maxRows
-  pub bads : n .bads ≤ maxRows
-  pub outputs : n .outputs ≤ maxRows
-  pub sets : n .sets ≤ maxRows
-  pub edges : n .edges ≤ maxRows
-  pub fairness : n .fairness ≤ maxRows

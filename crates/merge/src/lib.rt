@@ -5,16 +5,18 @@ ghost use lib.ListN.{length};
 ghost use Rattle.rows.specs.Sizes.{maxRows};
 ghost use Rattle.graph.specs.Graph.{lent};
 ghost use Rattle.graph.specs.Check.{cleared, checkSeen};
-ghost use Rattle.renumber.specs.Writing.{written};
+ghost use Rattle.output.specs.Writing.{written};
 ghost use Rattle.renumber.specs.Renumber.{renamed, edgesOf};
-ghost use Rattle.merge.specs.Merge.{shifted as shiftedBy, summed, merged, MergeLent, Addable, Movable, RowsReady};
+ghost use Rattle.merge.specs.Merge.{shifted as shiftedBy, summed, merged, MergeLent};
+ghost use Rattle.merge.specs.Steps.{Addable, Movable, RowsReady};
 ghost use Rattle.renumber.specs.Seen.{rebuiltSeen};
 ghost use Rattle.merge.specs.Call.{mergeChecked, mergeCall};
 use edge::Answer;
 use graph::Counts;
+use graph::latch::LATCH_WORDS;
 use graph::marks::clear;
+use output::fits;
 use renumber::Rebuilt;
-use renumber::output::has_room;
 use renumber::write_ids;
 use renumber::write_lists;
 use rows::kinds::NONE;
@@ -113,7 +115,7 @@ fn checked(
         (now (marks .entry))
         ⌝ }
 {
-    let answer = graph::check_two(
+    let answer = two_graphs::check_two(
         rows,
         inputs,
         latches,
@@ -140,18 +142,18 @@ fn checked(
         return answer;
     }
     let need = sum(counts, counts2);
-    if has_room(
-        rows,
-        inputs,
-        latches,
-        constraints,
-        bads,
-        outputs,
-        ends,
-        edges,
-        fairness,
-        need,
-    ) {
+    let room = Counts {
+        rows: rows.len() / 2,
+        inputs: inputs.len(),
+        latches: latches.len() / LATCH_WORDS,
+        constraints: constraints.len(),
+        bads: bads.len(),
+        outputs: outputs.len(),
+        sets: ends.len(),
+        edges: edges.len(),
+        fairness: fairness.len(),
+    };
+    if fits(room, need) {
         return answer;
     }
     Answer::NoRoom

@@ -17,8 +17,8 @@ use Rattle.graph.specs.Graph.{Lent, lent, sizesRight}
 use Rattle.graph.specs.Check.{contents, checkCall}
 use Rattle.gates.specs.Gates.{rowAdded, first, second, addGate, folded, addAnd, addStep, steps}
 use Rattle.gates.specs.Lists.{allOf, listOf, eqOf}
-use Rattle.renumber.specs.Writing.{written}
-use Rattle.copy.specs.Copying.{copied}
+use Rattle.output.specs.Writing.{written}
+use Rattle.output.specs.Copying.{copied}
 use Rattle.property.specs.Checking.{changeChecked}
 use Rattle.property.specs.Compress.{orOf, oneBad, compressed, compressRoom, compressChecked, compressCall}
 use Rattle.property.specs.GateInit.{isGated, constraintOf, gateStep, gateSteps, initless, initsTaken, gatedAll, gatedCounts, gatedPart, gateInit, gateRoom, gateInitChecked, gateInitCall}
@@ -38,12 +38,14 @@ all-in-one : compressCall bad (8 ∷ 8 ∷ 8 ∷ 8 ∷ []) (9 ∷ 9 ∷ 9 ∷ 9 
       old = 2 ∷ 4 ∷ 2 ∷ 8 ∷ [];
       marks = 0 ∷ 0 ∷ 0 ∷ 9 ∷ [];
     }
-unfolding compressCall compressChecked changeChecked compressRoom orOf compressed oneBad orElse checkCall sizesRight rowsFit fits contents firstFault firstBad isRow isFalseRow isLeaf isGate freeLeaf member latchInputs latchEdges endIs setOf listOf allOf steps addStep addAnd addGate folded first second rowAdded complement copied written
+unfolding compressCall compressChecked changeChecked compressRoom orOf compressed oneBad orElse checkCall sizesRight rowsFit fits contents firstFault firstBad isRow isFalseRow isLeaf isGate
+    freeLeaf member latchInputs latchEdges endIs setOf listOf allOf steps addStep addAnd addGate folded first second rowAdded complement copied written
 all-in-one = refl
 
 -- the room for the old bads is one short
 none-back : compressCall bad (8 ∷ 8 ∷ []) (9 ∷ 9 ∷ 9 ∷ 9 ∷ []) ≡ record { given = noRoom; graph = bad; old = 8 ∷ 8 ∷ []; marks = 0 ∷ 0 ∷ 0 ∷ 9 ∷ [] }
-unfolding compressCall compressChecked changeChecked compressRoom orOf compressed oneBad orElse checkCall sizesRight rowsFit fits contents firstFault firstBad isRow isFalseRow isLeaf isGate freeLeaf member latchInputs latchEdges endIs setOf listOf allOf steps addStep addAnd addGate folded first second rowAdded complement
+unfolding compressCall compressChecked changeChecked compressRoom orOf compressed oneBad orElse checkCall sizesRight rowsFit fits contents firstFault firstBad isRow isFalseRow isLeaf isGate
+    freeLeaf member latchInputs latchEdges endIs setOf listOf allOf steps addStep addAnd addGate folded first second rowAdded complement
 none-back = refl
 
 -- ---- three latches: the first's init is its own complement, the second's is true, the third's is the second latch
@@ -53,12 +55,14 @@ gated =
     (counts 4 3 0 0)
 
 -- the new latch is row 4: the first constraint is that it is false, and of the third latch's the rows are made
-two-constraints : gateInitCall gated (9 ∷ 9 ∷ 9 ∷ 9 ∷ [])
-    ≡ record {
+two-constraints :
+    gateInitCall gated (9 ∷ 9 ∷ 9 ∷ 9 ∷ []) ≡ record {
       given = done;
-      graph = lent (falseWord ∷ 0 ∷ none ∷ 0 ∷ none ∷ 0 ∷ none ∷ 0 ∷ none ∷ 0 ∷ 2 ∷ 4 ∷ 3 ∷ 5 ∷ 11 ∷ 13 ∷ 8 ∷ 14 ∷ []) [] (3 ∷ 0 ∷ none ∷ 2 ∷ 0 ∷ 1 ∷ 1 ∷ 0 ∷ none ∷ 4 ∷ 0 ∷ 1 ∷ []) (9 ∷ 17 ∷ []) [] [] [] [] []
-          (counts 9 4 2 0);
+      graph = lent (falseWord ∷ 0 ∷ none ∷ 0 ∷ none ∷ 0 ∷ none ∷ 0 ∷ none ∷ 0 ∷ 2 ∷ 4 ∷ 3 ∷ 5 ∷ 11 ∷ 13 ∷ 8 ∷ 14 ∷ []) [] (3 ∷ 0 ∷ none ∷ 2 ∷ 0 ∷ 1 ∷ 1 ∷ 0 ∷ none ∷ 4 ∷ 0 ∷ 1 ∷ []) (9 ∷ 17 ∷ [])
+          [] [] [] [] [] (counts 9 4 2 0);
       marks = 0 ∷ 0 ∷ 0 ∷ 0 ∷ [];
     }
-unfolding gateInitCall gateInitChecked changeChecked gateRoom gateInit gatedPart gatedCounts gatedAll gateSteps gateStep constraintOf isGated initsTaken initless latchSet orElse checkCall sizesRight rowsFit fits contents firstFault firstBad isRow isFalseRow isLeaf isGate freeLeaf member latchInputs latchEdges endIs setOf eqOf listOf allOf steps addStep addAnd addGate folded first second rowAdded complement
+unfolding gateInitCall gateInitChecked changeChecked gateRoom gateInit gatedPart gatedCounts gatedAll gateSteps gateStep constraintOf isGated initsTaken initless latchSet orElse checkCall
+    sizesRight rowsFit fits contents firstFault firstBad isRow isFalseRow isLeaf isGate freeLeaf member latchInputs latchEdges endIs setOf eqOf listOf allOf steps addStep addAnd addGate folded
+    first second rowAdded complement
 two-constraints = refl

@@ -21,8 +21,9 @@ use Rattle.gates.specs.Lists.{listOf}
 use Rattle.gates.proofs.Listing.{list-like}
 use Rattle.renumber.specs.declared.Rebuilt.{Rebuilt}
 use Rattle.renumber.specs.Seen.{listedSeen}
-use Rattle.property.specs.Compress.{badsOf, orOf, oneBad, compressed, compressRoom, compressChecked, compressCall, OrReady, CompressReady, Compressing}
-use Rattle.property.specs.Meaning.{CompressLent}
+use Rattle.property.specs.Compress.{badsOf, orOf, oneBad, compressed, compressRoom, compressChecked, compressCall}
+use Rattle.property.specs.Steps.{OrReady, CompressReady, Compressing}
+use Rattle.property.specs.CompressMeaning.{CompressLent}
 use Rattle.property.proofs.Answering.{Accepted, change-accepted}
 
 -- how many rows the or takes does not hang on the rows, so the run on no rows tells the need

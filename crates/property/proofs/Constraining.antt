@@ -1,6 +1,6 @@
 -- Laws of `gate_init_to_constraint`: what it answers and writes.
 -- Assumes nothing.
-use Prim.Native.Nat.{ℕ, _+_, _*_, _/_, _≤_}
+use Prim.Native.Nat.{ℕ, _+_, _*_, _≤_}
 use native.Mathlib.Omega.{arith}
 use mathlib.Core.Path.{_≡_, refl, sym, ap, _∙_}
 use mathlib.Core.Bool.{Bool, true, false, not, _&&_, _||_}
@@ -22,8 +22,10 @@ use Rattle.graph.specs.WellFormed.{WellFormed}
 use Rattle.gates.specs.Gates.{leafAdded}
 use Rattle.renumber.specs.declared.Rebuilt.{Rebuilt}
 use Rattle.renumber.specs.Seen.{rebuiltSeen}
-use Rattle.property.specs.GateInit.{anyGated, Gating, gating, gateSteps, initsTaken, Part, part, partOf, withPart, gatedAll, gatedCounts, newLatch, gatedPart, noneGated, gateInit, gateRoom, gateInitChecked, gateInitCall, StepsReady, GateReady}
-use Rattle.property.specs.Meaning.{GateRoom}
+use Rattle.property.specs.Steps.{anyGated, StepsReady, GateReady}
+use Rattle.property.specs.GateInit.{Gating, gating, gateSteps, initsTaken, Part, part, partOf, withPart, gatedAll}
+use Rattle.property.specs.GateInit.{gatedCounts, newLatch, gatedPart, noneGated, gateInit, gateRoom, gateInitChecked, gateInitCall}
+use Rattle.property.specs.GateInitMeaning.{GateRoom}
 use Rattle.property.proofs.Answering.{Accepted, change-accepted}
 use Rattle.property.proofs.Gating.{Alike, steps-alike, none-counted, some-counted}
 
@@ -43,7 +45,7 @@ module _ (p : Part) where
 
   module _ {u k : ℕ} (e : (u ≡ dry .used) × (k ≡ dry .count)) where
     pub gate-room : {t : Bool}
-        → eqb k (p .counts .constraints) || (leb u (length (p .rows) / 2) && ltb (p .counts .latches) (length (p .latches) / 3) && leb k (length (p .constraints))) ≡ t
+        → eqb k (p .counts .constraints) || (leb u (rowsLent (p .rows)) && ltb (p .counts .latches) (latchesLent (p .latches)) && leb k (length (p .constraints))) ≡ t
         → gateRoom p ≡ t
     unfolding gateRoom
     gate-room h = rw (← (alike .used), ← (e .0), ← (alike .count), ← (e .1)) h

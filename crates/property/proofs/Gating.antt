@@ -17,7 +17,8 @@ use Rattle.gates.specs.Gates.{State, state, addAnd}
 use Rattle.gates.specs.Lists.{listOf, eqOf}
 use Rattle.gates.proofs.Building.{Like, Sized, and-sized}
 use Rattle.gates.proofs.Listing.{list-sized, list-like, eq-sized, eq-like, pair-or}
-use Rattle.property.specs.GateInit.{isGated, anyGated, constraintOf, Gating, gating, gateStep, gateSteps}
+use Rattle.property.specs.GateInit.{isGated, constraintOf, Gating, gating, gateStep, gateSteps}
+use Rattle.property.specs.Steps.{anyGated}
 
 -- ---- the OR of two edges
 pub or-built : (rows : List ℕ) (used a b : ℕ) {m n e : ℕ} (s : State) → m ≡ complement a → n ≡ complement b → s ≡ addAnd rows used m n → e ≡ complement (s .edge)

@@ -4,10 +4,10 @@ use Prim.Native.Nat.{ℕ, zero, suc, _+_, _*_, _≤_, _<_}
 use native.Mathlib.Omega.{arith}
 use native.Mathlib.Nat.{eq-or-lt-of-le}
 use native.Mathlib.Numerals.{add-one}
-use mathlib.Core.Path.{_≡_, refl, ap, ap₂, _∙_}
-use mathlib.Core.Bool.{Bool, true, false, not}
+use mathlib.Core.Path.{_≡_, refl, ap, _∙_}
+use mathlib.Core.Bool.{Bool, true, false, cond, not}
 use mathlib.Core.Logic.{_⊎_, inl, ⊎-elim}
-use mathlib.Core.List.{List, [], _∷_, _++_}
+use mathlib.Core.List.{List}
 use lib.ListN.{length}
 use lib.Dec.{eqb}
 use borrow.Author.Tests.{not-true, eqb-false}
@@ -15,9 +15,8 @@ use Rattle.edge.specs.Edges.{idOf}
 use Rattle.edge.proofs.Tests.{both}
 use Rattle.rows.specs.Rows.{none}
 use Rattle.graph.specs.declared.latch.Latch.{Latch}
-use Rattle.graph.specs.Latches.{latchAt, latchSet, latchWords, latchInputs, latch}
-use Rattle.renumber.proofs.Entering.{latch-kept, latch-set-at}
-use Rattle.renumber.proofs.Writing.{latch-set-length}
+use Rattle.graph.specs.Latches.{latchWords, withoutInit, latchAt, latchSet}
+use Rattle.graph.proofs.Latches.{latch-set-length, latch-kept, latch-set-at}
 use Rattle.property.specs.GateInit.{isGated, initless, initsTaken}
 
 pub inits-length : (latches : List ℕ) (n : ℕ) → length (initsTaken latches n) ≡ length latches
@@ -46,15 +45,22 @@ inits-at latches (suc n) i l h =
     (λ (k : suc i < suc n). latch-kept (initsTaken latches n) n (initless (latchAt latches n)) i (λ (e : i ≡ n). absurd (omega arith)) ∙ inits-at latches n i (omega arith) (omega arith))
     (eq-or-lt-of-le l)
 
-pub initless-input : (l : Latch) → initless l .input ≡ l .input
+-- whether or not it loses its init
+either-latch : (l : Latch) (read : Latch → ℕ) → read (withoutInit l) ≡ read l → read (initless l) ≡ read l
 unfolding initless
-initless-input l = refl
+either-latch l read e = go (isGated l)
+  where
+    go : (d : Bool) → read (cond d (withoutInit l) l) ≡ read l
+    go true = e
+    go false = refl
+
+pub initless-input : (l : Latch) → initless l .input ≡ l .input
+initless-input l = either-latch l (λ (x : Latch). x .input) refl
 
 pub initless-next : (l : Latch) → initless l .next ≡ l .next
-unfolding initless
-initless-next l = refl
+initless-next l = either-latch l (λ (x : Latch). x .next) refl
 
-pub initless-gated : (l : Latch) → isGated l ≡ true → initless l ≡ latch (l .input) (l .next) none
+pub initless-gated : (l : Latch) → isGated l ≡ true → initless l ≡ withoutInit l
 unfolding initless
 initless-gated l e = rw e
 
@@ -68,11 +74,6 @@ initless-init used l h = go (isGated l) refl
     go : (d : Bool) → isGated l ≡ d → (initless l .init ≡ none) ⊎ (idOf (initless l .init) < used)
     go true e = inl (ap (λ (x : Latch). x .init) (initless-gated l e))
     go false e = rw (initless-left l e) h
-
-pub inputs-same : (a b : List ℕ) (n : ℕ) → ((i : ℕ) → i < n → latchAt a i .input ≡ latchAt b i .input) → latchInputs a n ≡ latchInputs b n
-unfolding latchInputs
-inputs-same a b zero h = refl
-inputs-same a b (suc n) h = ap₂ (λ (l : List ℕ) (x : ℕ). l ++ (x ∷ [])) (inputs-same a b n (λ i l. h i (omega arith))) (h n (omega arith))
 
 -- such an init is an edge
 pub gated-edge : (used : ℕ) (l : Latch) → isGated l ≡ true → (l .init ≡ none) ⊎ (idOf (l .init) < used) → idOf (l .init) < used

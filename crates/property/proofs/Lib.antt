@@ -1,10 +1,10 @@
 pub mod Answering
 pub mod Compressing
-pub mod OneBad
+pub mod CompressMeaning
 pub mod Gating
 pub mod Initless
 pub mod Constraining
 pub mod Making
 pub mod Starting
-pub mod GateInitRight
+pub mod GateInitMeaning
 pub mod Cases

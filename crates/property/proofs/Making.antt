@@ -27,7 +27,7 @@ use Rattle.graph.specs.Count.{countBelow}
 use Rattle.renumber.specs.Kept.{SameBefore}
 use Rattle.graph.proofs.Counting.{count-past}
 use Rattle.property.specs.GateInit.{isGated, constraintOf, Gating, gating, gateStep, gateSteps}
-use Rattle.property.specs.Meaning.{equal}
+use Rattle.property.specs.GateInitMeaning.{equal}
 use Rattle.property.proofs.Gating.{step-bounded}
 
 -- the latch and its init go to used rows
@@ -221,8 +221,9 @@ module _ (rows : List ℕ) (used new : ℕ) (latches constraints : List ℕ) (at
       added = rw e made-one
 
   -- what is made where it has one
-  step-made : (t : Gating) (n : ℕ) → gates n ≡ true
-      → gateStep new t (latchAt latches n) ≡ gating (constraintOf (t .rows) (t .used) new (latchAt latches n) .rows) (constraintOf (t .rows) (t .used) new (latchAt latches n) .used) (set (t .constraints) (t .count) (constraintOf (t .rows) (t .used) new (latchAt latches n) .edge)) (t .count + 1)
+  step-made :
+      (t : Gating) (n : ℕ) → gates n ≡ true → gateStep new t (latchAt latches n) ≡ gating (constraintOf (t .rows) (t .used) new (latchAt latches n) .rows)
+      (constraintOf (t .rows) (t .used) new (latchAt latches n) .used) (set (t .constraints) (t .count) (constraintOf (t .rows) (t .used) new (latchAt latches n) .edge)) (t .count + 1)
   unfolding gateStep
   step-made t n e = rw e
 

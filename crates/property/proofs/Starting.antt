@@ -21,23 +21,23 @@ use Rattle.graph.specs.Latches.{latchWords, latchAt, latchInputs, latchSet, lat
 use Rattle.graph.specs.Leaves.{latchEdges}
 use Rattle.graph.specs.Graph.{valueIn, Lent, lent, Sized}
 use Rattle.graph.specs.WellFormed.{listed, WellFormed}
-use Rattle.build.specs.Calls.{counted}
+use Rattle.build_leaves.specs.Calls.{counted}
 use Rattle.gates.specs.Gates.{state, leafAdded}
-use Rattle.build.specs.Leaves.{freeRow}
+use Rattle.build_leaves.specs.Leaves.{freeRow}
 use Rattle.gates.specs.Meaning.{Grows}
 use Rattle.gates.proofs.Building.{row-long}
 use Rattle.gates.proofs.Growing.{grows-on}
 use Rattle.gates.proofs.Meaning.{grows-value, grows-edge}
-use Rattle.build.proofs.Meaning.{keeps}
-use Rattle.build.proofs.Leafing.{leaf-grows, leaf-made}
-use Rattle.build.proofs.Staying.{rows-stay, latch-stays, listed-used}
+use Rattle.build_leaves.proofs.Keeping.{keeps}
+use Rattle.build_leaves.proofs.Meaning.{leaf-grows, leaf-made}
+use Rattle.build_leaves.proofs.Graphs.{rows-stay, listed-used}
+use Rattle.build_latches.proofs.Graphs.{latch-stays}
 use Rattle.graph.proofs.Counting.{count-past, Counted, counted as counted-at}
-use Rattle.renumber.proofs.Writing.{latch-set-length}
-use Rattle.renumber.proofs.Entering.{latch-kept, latch-set-at}
+use Rattle.graph.proofs.Latches.{latch-set-length, latch-kept, latch-set-at, same-inputs}
 use Rattle.property.specs.GateInit.{Gating, gating, gateSteps, initless, initsTaken, partOf, withPart, gatedAll, gatedCounts, newLatch, gatedPart}
-use Rattle.property.specs.Meaning.{gatedAt, GateRoom, placeOf, StartsAt, equal, Constrained}
+use Rattle.property.specs.GateInitMeaning.{gatedAt, GateRoom, placeOf, StartsAt, equal, Constrained}
 use Rattle.property.proofs.Making.{Within, Made, made}
-use Rattle.property.proofs.Initless.{inits-length, inits-at, initless-input, initless-next, initless-gated, initless-left, initless-init, inputs-same, gated-edge}
+use Rattle.property.proofs.Initless.{inits-length, inits-at, initless-input, initless-next, initless-gated, initless-left, initless-init, gated-edge}
 
 -- ---- truth values
 equal-same : (a b : Bool) → equal a b ≡ true → a ≡ b
@@ -190,7 +190,7 @@ module _ (g : Lent) (marks : ℕ) (z : Sized g marks) (w : WellFormed g) (room :
   taken-init i l = ap (λ (x : Latch). x .init) (taken-at i l)
 
   listed-same : latchInputs taken n ≡ latchInputs (g .latches) n
-  listed-same = inputs-same taken (g .latches) n taken-input
+  listed-same = same-inputs taken (g .latches) n taken-input
 
   -- ---- before the new latch is added
   abbrev counts : Counts

@@ -1,12 +1,12 @@
 -- What `compress_property` answers and writes: it "leaves one bad, the or of all (constant false if there were none), and hands back the old list".
 -- Assumes nothing.
-use Prim.Native.Nat.{ℕ, _≤_, _<_}
+use Prim.Native.Nat.{ℕ}
 use mathlib.Core.Path.{_≡_}
 use mathlib.Core.List.{List}
 use mathlib.Core.Bool.{Bool, true, false, _&&_}
 use lib.ListN.{length, set, take}
 use lib.Dec.{ltb, leb}
-use Rattle.rows.specs.Sizes.{maxRows, maxEntries, rowsLent}
+use Rattle.rows.specs.Sizes.{maxEntries, rowsLent}
 use Rattle.rows.specs.Reading.{ifDone}
 use Rattle.graph.specs.declared.Counts.{Counts}
 use Rattle.graph.specs.Graph.{Lent, lent}
@@ -15,7 +15,7 @@ use Rattle.gates.specs.Gates.{State, state}
 use Rattle.gates.specs.Lists.{listOf}
 use Rattle.renumber.specs.declared.Rebuilt.{Rebuilt}
 use Rattle.renumber.specs.Seen.{ListedSeen, listedSeen, SameListed, listed-determined}
-use Rattle.copy.specs.Copying.{copied, WordsFit}
+use Rattle.output.specs.Copying.{copied}
 use Rattle.property.specs.Checking.{changeChecked}
 
 -- the used bads
@@ -69,23 +69,3 @@ compressCall g old marks =
 pub compress-determined : (g : Lent) (old marks : List ℕ) (r s : Rebuilt) (x y : Lent) (o p m n : List ℕ)
     → listedSeen r x o m ≡ compressCall g old marks → listedSeen s y p n ≡ compressCall g old marks → SameListed r x o m s y p n
 compress-determined g old = listed-determined (compressCall g old)
-
--- ---- what the steps rest on
--- the or of n bads can be built
-pub record OrReady (used : ℕ) (bads : List ℕ) (n : ℕ) : Type 0 where
-  pub few : used ≤ maxRows
-  pub limited : n ≤ maxEntries
-  pub has : n ≤ length bads
-
--- and there is room for the one bad and for the old list
-pub record CompressReady (used : ℕ) (bads : List ℕ) (n : ℕ) (old : List ℕ) : Type 0 where
-  pub or : OrReady used bads n
-  pub copy : WordsFit old bads n
-  pub one : 0 < length bads
-
--- what is left of rows, bads and the room for the old list
-pub record Compressing (rows : List ℕ) (used : ℕ) (bads : List ℕ) (n : ℕ) (old rows′ bads′ old′ : List ℕ) (used′ : ℕ) : Type 0 where
-  pub edge : ℕ
-  pub built : state rows′ used′ edge ≡ listOf false true rows used (take n bads)
-  pub left : bads′ ≡ set bads 0 edge
-  pub back : old′ ≡ copied old bads n

@@ -1,36 +1,30 @@
 -- What `gate_init_to_constraint` answers and writes: "a latch with init of id other than 0 loses it; one new latch (next false, init true) is added; per such latch a constraint "new latch implies
 -- latch equals init". No such latch: nothing changes."
 -- Assumes nothing.
-use Prim.Native.Nat.{ℕ, zero, suc, _+_, _*_, _≤_, _<_}
+use Prim.Native.Nat.{ℕ, zero, suc, _+_, _*_}
 use mathlib.Core.Path.{_≡_}
 use mathlib.Core.List.{List, [], _∷_}
 use mathlib.Core.Bool.{Bool, true, false, cond, not, _&&_, _||_}
 use lib.ListN.{length, set}
 use lib.Dec.{eqb, ltb, leb}
 use Rattle.edge.specs.Edges.{idOf, complement, constantOf}
-use Rattle.rows.specs.Sizes.{maxRows, maxEntries, rowsLent}
+use Rattle.rows.specs.Sizes.{rowsLent}
 use Rattle.rows.specs.Rows.{none}
 use Rattle.rows.specs.Reading.{ifDone}
 use Rattle.graph.specs.declared.Counts.{Counts}
 use Rattle.graph.specs.declared.latch.Latch.{Latch}
-use Rattle.graph.specs.Latches.{latchWords, latchesLent, latchAt, latchSet, latch}
+use Rattle.graph.specs.Latches.{latchesLent, latch, withoutInit, latchAt, latchSet}
 use Rattle.graph.specs.Graph.{Lent, lent}
 use Rattle.graph.specs.Check.{CheckSeen}
-use Rattle.gates.specs.Gates.{stepLimit, State, leafAdded}
+use Rattle.gates.specs.Gates.{State, leafAdded}
 use Rattle.gates.specs.Lists.{listOf, eqOf}
 use Rattle.renumber.specs.declared.Rebuilt.{Rebuilt}
 use Rattle.renumber.specs.Seen.{RebuiltSeen, rebuiltSeen, SameRebuilt, rebuilt-determined}
-use Rattle.property.specs.declared.gate_init.Gated.{Gated}
 use Rattle.property.specs.Checking.{changeChecked}
 
 -- "a latch with init of id other than 0": the none word is no edge
 unfoldable pub isGated : Latch → Bool
 isGated l = not (eqb (l .init) none) && not (eqb (idOf (l .init)) 0)
-
--- is there such a latch among the first n?
-unfoldable pub anyGated : List ℕ → ℕ → Bool
-anyGated latches zero = false
-anyGated latches (suc n) = anyGated latches n || isGated (latchAt latches n)
 
 -- "new latch implies latch equals init", as `new_eq_node` and then `new_imply_node` build it; `new` is the new latch's row
 unfoldable pub constraintOf : List ℕ → ℕ → ℕ → Latch → State
@@ -48,9 +42,6 @@ pub record Gating : Type 0 where
 abbrev pub gating : List ℕ → ℕ → List ℕ → ℕ → Gating
 gating rows used constraints count = record { rows = rows; used = used; constraints = constraints; count = count }
 
-abbrev pub gatingOf : List ℕ → List ℕ → Gated → Gating
-gatingOf rows constraints r = gating rows (r .used) constraints (r .count)
-
 -- "per such latch a constraint"
 unfoldable pub gateStep : ℕ → Gating → Latch → Gating
 gateStep new s l =
@@ -64,7 +55,7 @@ gateSteps new latches s (suc n) = gateStep new (gateSteps new latches s n) (latc
 
 -- "loses it"
 unfoldable pub initless : Latch → Latch
-initless l = latch (l .input) (l .next) (cond (isGated l) none (l .init))
+initless l = cond (isGated l) (withoutInit l) l
 
 -- of the first n latches
 unfoldable pub initsTaken : List ℕ → ℕ → List ℕ
@@ -145,27 +136,3 @@ gateInitCall g marks =
 pub gate-init-determined : (g : Lent) (marks : List ℕ) (r s : Rebuilt) (x y : Lent) (m n : List ℕ)
     → rebuiltSeen r x m ≡ gateInitCall g marks → rebuiltSeen s y n ≡ gateInitCall g marks → SameRebuilt r x m s y n
 gate-init-determined g = rebuilt-determined (gateInitCall g)
-
--- ---- what the steps rest on: every code is a word
-pub record ConstraintReady (used new : ℕ) (l : Latch) : Type 0 where
-  pub few : used + 3 ≤ stepLimit
-  pub row : new ≤ maxRows
-  pub input : l .input ≤ maxRows
-
-pub record StepReady (used new : ℕ) (l : Latch) (count : ℕ) : Type 0 where
-  pub constraint : ConstraintReady used new l
-  pub more : count ≤ 2 * maxEntries
-
-pub record StepsReady (used new : ℕ) (latches : List ℕ) (n count : ℕ) : Type 0 where
-  pub few : used ≤ maxRows + 1
-  pub row : new ≤ maxRows
-  pub limited : n ≤ maxEntries
-  pub has : latchWords * n ≤ length latches
-  pub inputs : (j : ℕ) → j < n → latchAt latches j .input ≤ maxRows
-  pub more : count ≤ maxEntries
-
--- and there is a place for the new latch, where one is made
-pub record GateReady (p : Part) : Type 0 where
-  pub rows : p .counts .rows ≤ maxRows
-  pub steps : StepsReady (p .counts .rows + 1) (p .counts .rows) (p .latches) (p .counts .latches) (p .counts .constraints)
-  pub room : noneGated p ≡ false → latchWords * (p .counts .latches + 1) ≤ length (p .latches)

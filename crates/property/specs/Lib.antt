@@ -1,4 +1,6 @@
 pub mod Checking
 pub mod Compress
 pub mod GateInit
-pub mod Meaning
+pub mod CompressMeaning
+pub mod GateInitMeaning
+pub mod Steps

@@ -8,12 +8,13 @@ ghost use Rattle.graph.specs.Check.{checkSeen};
 ghost use Rattle.gates.specs.Gates.{stateOf};
 ghost use Rattle.gates.specs.Lists.{listOf};
 ghost use Rattle.renumber.specs.Seen.{listedSeen};
-ghost use Rattle.property.specs.Compress.{oneBad, compressChecked, compressCall, OrReady, CompressReady, Compressing};
-use copy::copy_words;
+ghost use Rattle.property.specs.Compress.{oneBad, compressChecked, compressCall};
+ghost use Rattle.property.specs.Steps.{OrReady, CompressReady, Compressing};
 use edge::Answer;
 use gates::Grown;
 use gates::lists::add_list;
 use graph::Counts;
+use output::copy_words;
 use renumber::Rebuilt;
 use rows::sizes::MAX_ENTRIES;
 

@@ -7,10 +7,12 @@ ghost use lib.ListN.{length, set};
 ghost use Rattle.graph.specs.Latches.{latchWords};
 ghost use Rattle.graph.specs.Graph.{lent};
 ghost use Rattle.graph.specs.Check.{checkSeen};
-ghost use Rattle.gates.specs.Gates.{stepLimit, stateOf};
+ghost use Rattle.gates.specs.Steps.{stepLimit};
+ghost use Rattle.gates.specs.Gates.{stateOf};
 ghost use Rattle.gates.specs.Lists.{listOf};
 ghost use Rattle.renumber.specs.Seen.{rebuiltSeen};
-ghost use Rattle.property.specs.GateInit.{isGated, anyGated, constraintOf, gating, gatingOf, gateStep, gateSteps, initless, initsTaken, part, gatedCounts, gateInit, gateInitChecked, gateInitCall, ConstraintReady, StepReady, StepsReady, GateReady};
+ghost use Rattle.property.specs.GateInit.{isGated, constraintOf, gating, gateStep, gateSteps, initless, initsTaken, part, gatedCounts, gateInit, gateInitChecked, gateInitCall};
+ghost use Rattle.property.specs.Steps.{anyGated, gatingOf, ConstraintReady, StepReady, StepsReady, GateReady};
 use edge::Answer;
 use gates::Grown;
 use gates::add_and;
@@ -19,6 +21,8 @@ use graph::Counts;
 use graph::latch::LATCH_WORDS;
 use graph::latch::Latch;
 use graph::latch::latch_at;
+use graph::latch::latch_of;
+use graph::latch::without_init;
 use graph::latch::write_latch;
 use renumber::Rebuilt;
 use rows::kinds::NONE;
@@ -154,11 +158,7 @@ fn initless(l: Latch) -> Latch
     ensures { λ r. ⌜ r ≡ initless l ⌝ }
 {
     if is_gated(l) {
-        return Latch {
-            input: l.input,
-            next: l.next,
-            init: NONE,
-        };
+        return without_init(l);
     }
     l
 }
@@ -266,15 +266,7 @@ fn write(rows: &mut [u32], latches: &mut [u32], constraints: &mut [u32], counts:
         counts.constraints,
     );
     take_inits(latches, n);
-    write_latch(
-        latches,
-        n,
-        Latch {
-            input: new,
-            next: 0,
-            init: 1,
-        },
-    );
+    write_latch(latches, n, latch_of(new, 0, 1));
     counted(counts, gated.used, gated.count)
 }
 

@@ -1,2 +1,1 @@
-pub mod Arrays
-pub mod Bridging
+pub mod Meaning

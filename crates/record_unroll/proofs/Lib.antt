@@ -1,1 +1,2 @@
+pub mod Bridging
 pub mod Nexting

@@ -14,7 +14,7 @@ use Rattle.frame.specs.Map.{mapped, nextSet, nextsSet, listsGrown}
 use Rattle.frame.specs.Frame.{framed, frameBetween}
 use Rattle.unroll.specs.Unroll.{unrollAnswer, unrollCall}
 use Rattle.records.specs.Table.{takeNext}
-use Rattle.records.proofs.Meaning.{NextsAlone}
+use Rattle.records.specs.Calling.{NextsAlone}
 
 -- another next is one store
 as-store : (x : List ℕ) (i v : ℕ) → nextSet x i v ≡ set x (latchWords * i + 1) v
@@ -29,10 +29,9 @@ as-store x i v =
 one-alone : (x : List ℕ) (i v : ℕ) → NextsAlone x (nextSet x i v)
 one-alone x i v =
     subst (NextsAlone x) (sym (as-store x i v))
-    (λ j. let y : List ℕ = set x (latchWords * i + 1) v in
-    let e : getD y (latchWords * j) 0 ≡ getD x (latchWords * j) 0 = getD-set-other x (latchWords * i + 1) (latchWords * j) v 0 (λ (h : latchWords * j ≡ latchWords * i + 1). absurd (omega arith)) in
-    let f : getD y (latchWords * j + 2) 0 ≡ getD x (latchWords * j + 2) 0 = getD-set-other x (latchWords * i + 1) (latchWords * j + 2) v 0 (λ (h : latchWords * j + 2 ≡ latchWords * i + 1). absurd (omega arith)) in
-    λ k. record { input = sym e k; next = latchAt y j .next; init = sym f k })
+    (λ j. let y : List ℕ = set x (latchWords * i + 1) v in let e : getD y (latchWords * j) 0 ≡ getD x (latchWords * j) 0 = getD-set-other x (latchWords * i + 1) (latchWords * j) v 0
+    (λ (h : latchWords * j ≡ latchWords * i + 1). absurd (omega arith)) in let f : getD y (latchWords * j + 2) 0 ≡ getD x (latchWords * j + 2) 0 = getD-set-other x (latchWords * i + 1)
+    (latchWords * j + 2) v 0 (λ (h : latchWords * j + 2 ≡ latchWords * i + 1). absurd (omega arith)) in λ k. record { input = sym e k; next = latchAt y j .next; init = sym f k })
 
 all-alone : (map latches from : List ℕ) (n : ℕ) → NextsAlone latches (nextsSet map latches from n)
 unfolding nextsSet

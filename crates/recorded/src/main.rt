@@ -1,5 +1,7 @@
-// Graphs with latches, three frames each: unrolled through tables of latch records and, beside it, by the flat call. After each frame the nexts
-// are read back and printed, and the answers, counts, rows, inputs and latches of both are compared.
+// Graphs with latches, through tables of latch records and, beside it, flat: each is checked, three frames are added, and a next is written. After each
+// frame the nexts are read back and printed, and the answers, counts, rows, inputs and latches of both are compared.
+mod checks;
+mod entries;
 mod graphs;
 mod ways;
 mod words;
@@ -28,7 +30,14 @@ fn case(name: &[u8], which: u8) {
     let mut inputs = [0u32; 8];
     let mut latches = [0u32; 48];
     let counts = graphs::made(which, &mut rows, &mut inputs, &mut latches);
+    said_checked(
+        name,
+        checks::through_records(&rows, &inputs, &latches, counts),
+        checks::flat(&rows, &inputs, &latches, counts),
+    );
     compared(name, which, &rows, &inputs, &latches, counts);
+    entry(name, which, 0, 1);
+    entry(name, which, 16, 1);
 }
 
 // The graph twice more, to be unrolled.
@@ -166,6 +175,44 @@ fn say(name: &[u8], k: u64, given: Given, counts: Counts, latches: &[u32], agree
         io::write_all(STDOUT_FILENO, b", every word as the flat call's\n");
     } else {
         io::write_all(STDOUT_FILENO, b", NOT as the flat call's\n");
+    }
+}
+
+// A line: what the check through records answers, and whether the flat check answers the same.
+fn said_checked(name: &[u8], given: Given, flat: Given) {
+    io::write_all(STDOUT_FILENO, name);
+    number(b", check: answer ", given.number as u64);
+    if words::same_given(given, flat) {
+        io::write_all(STDOUT_FILENO, b", as the flat check's\n");
+    } else {
+        io::write_all(STDOUT_FILENO, b", NOT as the flat check's\n");
+    }
+}
+
+// A line: the next of record i written through records, what is read again, and whether the words are those that the flat write leaves.
+fn entry(name: &[u8], which: u8, i: usize, next: u32) {
+    let mut rows = [0u32; 16];
+    let mut inputs = [0u32; 8];
+    let mut latches = [0u32; 48];
+    graphs::made(which, &mut rows, &mut inputs, &mut latches);
+    let mut flat_rows = [0u32; 16];
+    let mut flat_inputs = [0u32; 8];
+    let mut flat_latches = [0u32; 48];
+    graphs::made(which, &mut flat_rows, &mut flat_inputs, &mut flat_latches);
+    let r = record_bridge::set_next(&mut latches, i, next);
+    entries::set_flat(&mut flat_latches, i, next);
+    let answer = r.answer;
+    let latch = r.latch;
+    let given = edge::told(answer);
+    io::write_all(STDOUT_FILENO, name);
+    number(b", next of record ", i as u64);
+    number(b" set to ", next as u64);
+    number(b": answer ", given.number as u64);
+    number(b", read ", latch.next as u64);
+    if words::same(&latches, &flat_latches) {
+        io::write_all(STDOUT_FILENO, b", every word as written flat\n");
+    } else {
+        io::write_all(STDOUT_FILENO, b", NOT as written flat\n");
     }
 }
 

@@ -31,6 +31,17 @@ latch-of-words (l ∷ t) (suc i) =
     let f : latchWords * suc i + 2 ≡ suc (suc (suc (latchWords * i + 2))) = omega arith in
     (λ j. record { input = getD (wordsOf (l ∷ t)) (thrice i j) 0; next = getD (wordsOf (l ∷ t)) (e j) 0; init = getD (wordsOf (l ∷ t)) (f j) 0 }) ∙ latch-of-words t i
 
+-- a latch put among the records is that latch put among their words
+pub words-set : (t : List Latch) (i : ℕ) (l : Latch) → wordsOf (set t i l) ≡ latchSet (wordsOf t) i l
+unfolding latchSet
+words-set [] i l = refl
+words-set (m ∷ t) zero l = refl
+words-set (m ∷ t) (suc i) l =
+    let e : latchWords * suc i + 1 ≡ suc (suc (suc (latchWords * i + 1))) = omega arith in
+    let f : latchWords * suc i + 2 ≡ suc (suc (suc (latchWords * i + 2))) = omega arith in
+    ap (λ (w : List ℕ). m .input ∷ (m .next ∷ (m .init ∷ w))) (words-set t i l)
+    ∙ sym (λ j. set (set (set (wordsOf (m ∷ t)) (thrice i j) (l .input)) (e j) (l .next)) (f j) (l .init))
+
 -- ---- the copy
 module _ (t : List Latch) (words : List ℕ) where
   -- the words after i records

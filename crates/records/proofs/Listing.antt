@@ -1,4 +1,4 @@
--- The machine values of the records that a constructor in place reads and writes; that it may make its result of `build`'s, and that one is made of its result and the counts.
+-- The machine values of the records that a constructor in place reads and writes; that it may make its result of the call's by value, and that one is made of its result and the counts.
 -- Assumes nothing; `lies` assumes `Given`.
 use Prim.Native.Nat.{ℕ}
 use mathlib.Core.List.{List, [], _∷_}
@@ -16,15 +16,15 @@ use denote.Struct.Laws as LL
 use denote.Enum.Laws as EL
 use Rattle.graph.specs.declared.Counts.{Counts}
 use Rattle.edge.specs.declared.answer.Answer.{Answer}
-use Rattle.build.specs.declared.calls.Added.{Added}
+use Rattle.build_leaves.specs.declared.calls.Added.{Added}
 use Rattle.records.specs.declared.counts.Listed.{Listed}
 use Rattle.records.specs.Counts.{added}
 use Rattle.graph.proofs.Counts as K
 use Rattle.graph.proofs.Counts.Laws as K′
 use Rattle.edge.proofs.answer.Answer as N
 use Rattle.edge.proofs.answer.Answer.Laws as N′
-use Rattle.build.proofs.calls.Added as D
-use Rattle.build.proofs.calls.Added.Laws as D′
+use Rattle.build_leaves.proofs.calls.Added as D
+use Rattle.build_leaves.proofs.calls.Added.Laws as D′
 use Rattle.records.proofs.counts.Listed as R
 use Rattle.records.proofs.counts.Listed.Laws as R′
 

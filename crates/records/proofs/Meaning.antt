@@ -12,6 +12,7 @@ use Rattle.graph.specs.declared.latch.Latch.{Latch}
 use Rattle.graph.specs.Latches.{latchWords, latchesLent, latchAt}
 use Rattle.records.specs.Table.{wordsOf, same-table, roomFor, takeNext, takeAll, backFrom, back, nextsBack, recordsBack, noLatch}
 use Rattle.records.specs.Entries.{there}
+use Rattle.records.specs.Calling.{NextsAlone}
 use Rattle.records.specs.Meaning.{RecordsRight}
 use Rattle.records.proofs.Laying.{thrice, words-length, latch-of-words}
 use Rattle.records.proofs.Nexting.{back-length, back-at}
@@ -71,21 +72,17 @@ unfolding back
 all-back t words room = let h : length t ≤ latchesLent words = leb-true (length t) (latchesLent words) room in rw room (read-back words t 0 (omega (arith, h)))
 
 -- ---- nexts alone
--- y holds the latches of x but for their nexts
-abbrev pub NextsAlone : List ℕ → List ℕ → Type 0
-NextsAlone x y = (j : ℕ) → takeNext (latchAt x j) (latchAt y j) ≡ latchAt y j
-
 -- where nothing but nexts differs, nexts back is all back
 pub nexts-all : (t : List Latch) (words : List ℕ) → roomFor t words ≡ true → NextsAlone (wordsOf t) (take (latchWords * length t) words) → nextsBack t words ≡ recordsBack t words
 nexts-all t words room alone =
     let u = recordsBack t words in
     let n : length (nextsBack t words) ≡ length u = back-kept takeNext t words ∙ sym (back-kept takeAll t words) in
-    let same : (j : ℕ) → takeNext (getD t j noLatch) (getD u j noLatch) ≡ getD u j noLatch
-    = λ j. (λ k. takeNext (sym (latch-of-words t j) k) (sym (latch-of-words u j) k))
-    ∙ (ap (λ (z : List ℕ). takeNext (latchAt (wordsOf t) j) (latchAt z j)) (all-back t words room) ∙ (alone j ∙ (ap (λ (z : List ℕ). latchAt z j) (sym (all-back t words room)) ∙ latch-of-words u j))) in
+    let same : (j : ℕ) → takeNext (getD t j noLatch) (getD u j noLatch) ≡ getD u j noLatch = λ j. (λ k. takeNext (sym (latch-of-words t j) k) (sym (latch-of-words u j) k)) ∙
+    (ap (λ (z : List ℕ). takeNext (latchAt (wordsOf t) j) (latchAt z j)) (all-back t words room) ∙
+    (alone j ∙ (ap (λ (z : List ℕ). latchAt z j) (sym (all-back t words room)) ∙ latch-of-words u j))) in
     ext-getD noLatch (nextsBack t words) u n
-    (λ j h. let b : there t j ≡ true = lt-ltb j (length t) (rw (sym (back-kept takeNext t words)) h) in
-    back-next takeNext t words j room b ∙ (ap (takeNext (getD t j noLatch)) (sym (back-next takeAll t words j room b)) ∙ same j))
+    (λ j h. let b : there t j ≡ true = lt-ltb j (length t) (rw (sym (back-kept takeNext t words)) h) in back-next takeNext t words j room b ∙
+    (ap (takeNext (getD t j noLatch)) (sym (back-next takeAll t words j room b)) ∙ same j))
 
 pub records-right : (t : List Latch) → RecordsRight t
 records-right t = record {

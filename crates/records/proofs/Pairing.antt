@@ -1,74 +1,21 @@
 -- A flat call on two graphs in work words is the call on the words that the records of both hold.
 -- Assumes nothing.
-use Prim.Native.Nat.{ℕ, _+_, _*_, _≤_, _<_, _/_}
+use Prim.Native.Nat.{ℕ, _*_, _≤_, _<_}
 use native.Mathlib.Omega.{arith}
 use mathlib.Core.Path.{_≡_, refl, sym, ap, subst, _∙_}
 use mathlib.Core.Bool.{Bool, true, false, cond, _&&_}
 use mathlib.Core.List.{List, _++_}
-use lib.ListN.{length, replicate, length-append, length-drop, take-append-drop}
+use lib.ListN.{length, length-append, length-drop, take-append-drop}
 use lib.Seq.{take-at, drop-at}
-use lib.Dec.{leb}
-use borrow.Author.Tests.{leb-true, le-leb, lt-leb}
+use borrow.Author.Tests.{le-leb, lt-leb}
 use Rattle.graph.specs.declared.latch.Latch.{Latch}
 use Rattle.graph.specs.Latches.{latchWords, latchesLent}
-use Rattle.graph.specs.Check.{cleared}
-use Rattle.records.specs.Table.{wordsOf, roomFor, laidOut, wiped, takeNext, takeAll, nextsBack, recordsBack}
-use Rattle.records.specs.Pairing.{front, behind, Fronted, fronted, onBoth, pairSeen, onBothRecords}
-use Rattle.records.proofs.Laying.{words-length}
-use Rattle.records.proofs.Meaning.{all-back, back-stays, NextsAlone, nexts-all}
-
--- ---- the records' words in the work words
-module _ (t : List Latch) (words : List ℕ) where
-  laid : List ℕ
-  laid = wordsOf t ++ behind (length t) words
-
-  laid-is : roomFor t words ≡ true → laidOut t words ≡ laid
-  unfolding laidOut laid
-  laid-is e = rw e
-
-  pub laid-same : roomFor t words ≡ false → laidOut t words ≡ words
-  unfolding laidOut
-  laid-same e = rw e
-
-  pub laid-length : length (laidOut t words) ≡ length words
-  unfolding laidOut
-  laid-length = by-test (roomFor t words) refl
-    where
-      by-test : (b : Bool) → roomFor t words ≡ b → length (cond b (wordsOf t ++ behind (length t) words) words) ≡ length words
-      by-test true e =
-          let h : length t ≤ latchesLent words = leb-true (length t) (latchesLent words) e in
-          length-append (wordsOf t) (behind (length t) words) ∙ (omega (arith, h, words-length t, length-drop (latchWords * length t) words))
-      by-test false e = refl
-
-  pub laid-front : roomFor t words ≡ true → front (length t) (laidOut t words) ≡ wordsOf t
-  unfolding laid
-  laid-front e = ap (front (length t)) (laid-is e) ∙ take-at (wordsOf t) (behind (length t) words) (latchWords * length t) (words-length t)
-
-  pub laid-behind : roomFor t words ≡ true → behind (length t) (laidOut t words) ≡ behind (length t) words
-  unfolding laid
-  laid-behind e = ap (behind (length t)) (laid-is e) ∙ drop-at (wordsOf t) (behind (length t) words) (latchWords * length t) (words-length t)
-
-  -- wiped, they are as if they had never been laid out
-  pub laid-wiped : wiped (length t) (laidOut t words) ≡ wiped (length t) words
-  unfolding wiped
-  laid-wiped = by-test (roomFor t words) refl
-    where
-      by-test : (b : Bool) → roomFor t words ≡ b
-          → cond (leb (length t) (latchesLent (laidOut t words))) (cleared (latchWords * length t) (laidOut t words)) (laidOut t words) ≡ cond (leb (length t) (latchesLent words)) (cleared (latchWords * length t) words) words
-      by-test true e = rw (laid-length, e) (ap (λ (z : List ℕ). replicate (latchWords * length t) 0 ++ z) (laid-behind e))
-      by-test false e = rw (laid-length, e) (laid-same e)
-
--- as long as the words, so the same room
-room-like : (t : List Latch) (x y : List ℕ) → length x ≡ length y → roomFor t x ≡ roomFor t y
-room-like t x y e = ap (λ (k : ℕ). leb (length t) (k / latchWords)) e
-
-wiped-room : (t : List Latch) (x : List ℕ) → roomFor t x ≡ true → wiped (length t) x ≡ replicate (latchWords * length t) 0 ++ behind (length t) x
-unfolding wiped
-wiped-room t x e = rw e
-
-wiped-none : (t : List Latch) (x : List ℕ) → roomFor t x ≡ false → wiped (length t) x ≡ x
-unfolding wiped
-wiped-none t x e = rw e
+use Rattle.records.specs.Table.{wordsOf, roomFor, front, behind, laidOut, wiped, takeNext, nextsBack}
+use Rattle.records.specs.Calling.{Leaves, NextsAlone, CallRight}
+use Rattle.records.specs.Steps.{Fronted, fronted, onBoth}
+use Rattle.records.specs.Pairing.{pairSeen, onBothRecords}
+use Rattle.records.proofs.Calling.{laid-same, laid-length, laid-front, laid-wiped, room-like, call-right}
+use Rattle.records.proofs.Meaning.{back-stays}
 
 -- ---- the call on work words
 module _ {S : Type 0} (call : List ℕ → List ℕ → S) (refused : List ℕ → S) (n : ℕ) (words : List ℕ) (m : ℕ) (words2 : List ℕ) where
@@ -90,93 +37,82 @@ module _ {S : Type 0} (call : List ℕ → List ℕ → S) (refused : List ℕ �
       let d : behind n (l ++ behind n words) ≡ behind n words = drop-at l (behind n words) (latchWords * n) h in
       rw (le-leb n (latchesLent words) a, le-leb m (latchesLent words2) b) (λ j. fronted ((ap seen t ∙ f) j) (d j))
 
--- ---- the call: `seen` is what is left to be seen with other latches, and `get` and `put` are the latches of that
+-- ---- on records. `seen` is what is left to be seen with other latches, and `get` and `put` are the latches of that; of the latches the call changes the nexts alone
 module _ {S : Type 0} (call : List ℕ → List ℕ → S) (refused seen : List ℕ → S) (get : S → List ℕ) (put : S → List ℕ → S)
     (get-seen : (l : List ℕ) → get (seen l) ≡ l) (get-refused : (l : List ℕ) → get (refused l) ≡ l)
-    (put-seen : (l m : List ℕ) → put (seen l) m ≡ seen m) (put-refused : (l m : List ℕ) → put (refused l) m ≡ refused m) where
-  module _ (t : List Latch) (words : List ℕ) (t2 : List Latch) (words2 : List ℕ) (after : List ℕ)
-      (called : fronted (seen (front (length t) after)) (behind (length t) after) ≡ onBoth (length t) (laidOut t words) (length t2) (laidOut t2 words2) call refused)
-      (long : length after ≡ length words) where
-    abbrev Test : Bool → Bool → S
-    Test a b = cond (a && b) (call (front (length t) (laidOut t words)) (front (length t2) (laidOut t2 words2))) (refused (front (length t) (laidOut t words)))
+    (put-seen : (l m : List ℕ) → put (seen l) m ≡ seen m) (put-refused : (l m : List ℕ) → put (refused l) m ≡ refused m)
+    (keeps : (x y : List ℕ) → NextsAlone x (get (call x y)))
+    (t : List Latch) (words : List ℕ) (t2 : List Latch) (words2 : List ℕ) (after : List ℕ)
+    (called : fronted (seen (front (length t) after)) (behind (length t) after) ≡ onBoth (length t) (laidOut t words) (length t2) (laidOut t2 words2) call refused)
+    (long : length after ≡ length words) where
+  abbrev laid : List ℕ
+  laid = front (length t) (laidOut t words)
 
-    tested : seen (front (length t) after) ≡ Test (roomFor t words) (roomFor t2 words2)
-    unfolding onBoth
-    tested = ap (λ (z : Fronted S). z .seen) called ∙ (λ j. Test (room-like t (laidOut t words) words (laid-length t words) j) (room-like t2 (laidOut t2 words2) words2 (laid-length t2 words2) j))
+  abbrev Test : Bool → Bool → S
+  Test a b = cond (a && b) (call laid (front (length t2) (laidOut t2 words2))) (refused laid)
 
-    kept : behind (length t) after ≡ behind (length t) (laidOut t words)
-    unfolding onBoth
-    kept = ap (λ (z : Fronted S). z .behind) called
+  tested : seen (front (length t) after) ≡ Test (roomFor t words) (roomFor t2 words2)
+  unfolding onBoth
+  tested = ap (λ (z : Fronted S). z .seen) called ∙ (λ j. Test (room-like t (laidOut t words) words (laid-length t words) j) (room-like t2 (laidOut t2 words2) words2 (laid-length t2 words2) j))
 
-    room-after : roomFor t after ≡ roomFor t words
-    room-after = room-like t after words long
+  kept : behind (length t) after ≡ behind (length t) (laidOut t words)
+  unfolding onBoth
+  kept = ap (λ (z : Fronted S). z .behind) called
 
-    -- what is seen with room for the first graph's records, by the room for the second's
-    abbrev Either : Bool → S
-    Either b = cond b (call (wordsOf t) (wordsOf t2)) (refused (wordsOf t))
+  -- ---- with room for the first graph's records: a call on their words, by the room for the second's
+  abbrev either : Bool → List ℕ → S
+  either b x = cond b (call x (wordsOf t2)) (refused x)
 
-    with-room : roomFor t words ≡ true → (b : Bool) → roomFor t2 words2 ≡ b → seen (front (length t) after) ≡ Either b
-    with-room e true f = tested ∙ ((λ j. Test (e j) (f j)) ∙ (λ j. call (laid-front t words e j) (laid-front t2 words2 f j)))
-    with-room e false f = tested ∙ ((λ j. Test (e j) (f j)) ∙ ap refused (laid-front t words e))
+  module _ (room : roomFor t words ≡ true) where
+    with-room : (b : Bool) → roomFor t2 words2 ≡ b → seen (front (length t) after) ≡ either b laid
+    with-room true e = tested ∙ ((λ j. Test (room j) (e j)) ∙ ap (call laid) (laid-front t2 words2 e))
+    with-room false e = tested ∙ (λ j. Test (room j) (e j))
 
-    -- too few: the graph is as it was
-    refused-at : roomFor t words ≡ false → seen (front (length t) after) ≡ refused (front (length t) words)
-    refused-at e = tested ∙ ((λ j. Test (e j) (roomFor t2 words2)) ∙ ap (λ (z : List ℕ). refused (front (length t) z)) (laid-same t words e))
+    abbrev second : Bool
+    second = roomFor t2 words2
 
-    -- the work words
-    untouched : roomFor t words ≡ false → after ≡ words
-    untouched e =
-        let f : front (length t) after ≡ front (length t) words = sym (get-seen (front (length t) after)) ∙ (ap get (refused-at e) ∙ get-refused (front (length t) words)) in
-        let g : behind (length t) after ≡ behind (length t) words = kept ∙ ap (behind (length t)) (laid-same t words e) in
+    left : Leaves (length t) (laidOut t words) after (get (either second laid))
+    left = record { long = long ∙ sym (laid-length t words); lent = sym (get-seen (front (length t) after)) ∙ ap get (with-room second refl); rest = kept }
+
+    right : CallRight (either second) get t words room
+    right = call-right (either second) get t words room
+
+    alone : (b : Bool) → NextsAlone (wordsOf t) (get (either b (wordsOf t)))
+    alone true = keeps (wordsOf t) (wordsOf t2)
+    alone false = subst (NextsAlone (wordsOf t)) (sym (get-refused (wordsOf t))) (λ j. refl)
+
+    seen-with : seen (wordsOf (nextsBack t after)) ≡ either second (wordsOf t)
+    seen-with =
+        ap seen (right .nexts after left (alone second) ∙ (ap get (sym (right .called)) ∙ sym (left .lent)))
+        ∙ (with-room second refl ∙ right .called)
+
+  -- ---- without: the graph, its records and the work words are as they were
+  module _ (none : roomFor t words ≡ false) where
+    refused-at : seen (front (length t) after) ≡ refused (front (length t) words)
+    refused-at = tested ∙ ((λ j. Test (none j) (roomFor t2 words2)) ∙ ap (λ (z : List ℕ). refused (front (length t) z)) (laid-same t words none))
+
+    untouched : after ≡ words
+    untouched =
+        let f : front (length t) after ≡ front (length t) words = sym (get-seen (front (length t) after)) ∙ (ap get refused-at ∙ get-refused (front (length t) words)) in
+        let g : behind (length t) after ≡ behind (length t) words = kept ∙ ap (behind (length t)) (laid-same t words none) in
         sym (take-append-drop (latchWords * length t) after) ∙ ((λ j. f j ++ g j) ∙ take-append-drop (latchWords * length t) words)
 
-    words-right : wiped (length t) after ≡ wiped (length t) words
-    words-right = by-test (roomFor t words) refl
-      where
-        by-test : (a : Bool) → roomFor t words ≡ a → wiped (length t) after ≡ wiped (length t) words
-        by-test true e =
-            wiped-room t after (room-after ∙ e)
-            ∙ (ap (λ (z : List ℕ). replicate (latchWords * length t) 0 ++ z) (kept ∙ laid-behind t words e) ∙ sym (wiped-room t words e))
-        by-test false e = ap (wiped (length t)) (untouched e)
+    seen-without : seen (wordsOf (nextsBack t after)) ≡ refused (wordsOf t)
+    seen-without =
+        ap (λ (u : List Latch). seen (wordsOf u)) (back-stays takeNext t after (room-like t after words long ∙ none))
+        ∙ (sym (put-seen (front (length t) after) (wordsOf t)) ∙ (ap (λ (s : S). put s (wordsOf t)) refused-at ∙ put-refused (front (length t) words) (wordsOf t)))
 
-    -- the records t′ that came back: those of the words where there is room, else as they were
-    module _ (t′ : List Latch) (backs : roomFor t after ≡ true → wordsOf t′ ≡ front (length t) after) (stays : roomFor t after ≡ false → t′ ≡ t) where
-      abbrev Goal : Bool → Bool → Type 0
-      Goal a b = seen (wordsOf t′) ≡ cond (a && b) (call (wordsOf t) (wordsOf t2)) (refused (wordsOf t))
+  seen-right : (a : Bool) → roomFor t words ≡ a → seen (wordsOf (nextsBack t after)) ≡ cond (a && roomFor t2 words2) (call (wordsOf t) (wordsOf t2)) (refused (wordsOf t))
+  seen-right true e = seen-with e
+  seen-right false e = seen-without e
 
-      without : roomFor t words ≡ false → (b : Bool) → Goal false b
-      without e b =
-          ap (λ (u : List Latch). seen (wordsOf u)) (stays (room-after ∙ e))
-          ∙ (sym (put-seen (front (length t) after) (wordsOf t)) ∙ (ap (λ (s : S). put s (wordsOf t)) (refused-at e) ∙ put-refused (front (length t) words) (wordsOf t)))
+  words-right : (a : Bool) → roomFor t words ≡ a → wiped (length t) after ≡ wiped (length t) words
+  words-right true e = right e .clean after (left e)
+  words-right false e = ap (wiped (length t)) (untouched e)
 
-      seen-right : Goal (roomFor t words) (roomFor t2 words2)
-      seen-right = by-test (roomFor t words) refl
-        where
-          by-test : (a : Bool) → roomFor t words ≡ a → Goal a (roomFor t2 words2)
-          by-test true e = ap seen (backs (room-after ∙ e)) ∙ with-room e (roomFor t2 words2) refl
-          by-test false e = without e (roomFor t2 words2)
-
-      on-both-records : pairSeen (seen (wordsOf t′)) (wiped (length t) after) (wiped (length t2) (laidOut t2 words2)) ≡ onBothRecords t words t2 words2 call refused
-      unfolding onBothRecords
-      on-both-records = λ j. pairSeen (seen-right j) (words-right j) (laid-wiped t2 words2 j)
-
-    abbrev Promise : List Latch → Type 0
-    Promise t′ = pairSeen (seen (wordsOf t′)) (wiped (length t) after) (wiped (length t2) (laidOut t2 words2)) ≡ onBothRecords t words t2 words2 call refused
-
-    -- all of the latches is taken back
-    pub on-both-all : (t′ : List Latch) → t′ ≡ recordsBack t after → Promise t′
-    on-both-all t′ e = on-both-records t′ (λ h. ap wordsOf e ∙ all-back t after h) (λ h. e ∙ back-stays takeAll t after h)
-
-    -- or the nexts, where the call changes of the latches the nexts alone
-    module _ (keeps : (x y : List ℕ) → NextsAlone x (get (call x y))) where
-      kept-by : (b : Bool) → NextsAlone (wordsOf t) (get (Either b))
-      kept-by true = keeps (wordsOf t) (wordsOf t2)
-      kept-by false = subst (NextsAlone (wordsOf t)) (sym (get-refused (wordsOf t))) (λ j. refl)
-
-      alone : roomFor t after ≡ true → NextsAlone (wordsOf t) (front (length t) after)
-      alone h =
-          let e : front (length t) after ≡ get (Either (roomFor t2 words2)) = sym (get-seen (front (length t) after)) ∙ ap get (with-room (sym room-after ∙ h) (roomFor t2 words2) refl) in
-          subst (NextsAlone (wordsOf t)) (sym e) (kept-by (roomFor t2 words2))
-
-      pub on-both-nexts : (t′ : List Latch) → t′ ≡ nextsBack t after → Promise t′
-      on-both-nexts t′ e = on-both-records t′ (λ h. ap wordsOf (e ∙ nexts-all t after h (alone h)) ∙ all-back t after h) (λ h. e ∙ back-stays takeNext t after h)
+  pub on-both-nexts : (t′ : List Latch) → t′ ≡ nextsBack t after
+      → pairSeen (seen (wordsOf t′)) (wiped (length t) after) (wiped (length t2) (laidOut t2 words2)) ≡ onBothRecords t words t2 words2 call refused
+  unfolding onBothRecords
+  on-both-nexts t′ e =
+      ap (λ (u : List Latch). pairSeen (seen (wordsOf u)) (wiped (length t) after) (wiped (length t2) (laidOut t2 words2))) e
+      ∙ (λ j. pairSeen (seen-right (roomFor t words) refl j) (words-right (roomFor t words) refl j) (laid-wiped t2 words2 j))

@@ -4,9 +4,10 @@ use Prim.Native.Nat.{ℕ}
 use mathlib.Core.Path.{_≡_}
 use mathlib.Core.List.{List}
 use Rattle.graph.specs.declared.Counts.{Counts}
-use Rattle.build.specs.declared.calls.Added.{Added}
-use Rattle.build.specs.Calls.{SameAdded, addedSeen, added-determined}
-use Rattle.build.specs.Leaves.{newInputCall, addInputCall, newLatchCall, addLatchCall}
+use Rattle.build_leaves.specs.declared.calls.Added.{Added}
+use Rattle.build_leaves.specs.Calls.{SameAdded, addedSeen, added-determined}
+use Rattle.build_leaves.specs.Leaves.{newInputCall, addInputCall}
+use Rattle.build_latches.specs.Latches.{newLatchCall, addLatchCall}
 use Rattle.records.specs.declared.counts.Listed.{Listed}
 
 -- what a constructor answers and the counts that it leaves in the record are what the call by value answers, which is promised for both

@@ -36,12 +36,8 @@ there t i = ltb i (length t)
 unfoldable pub latchCall : List Latch → ℕ → LatchSeen
 latchCall t i = cond (there t i) (record { given = done; latch = getD t i noLatch }) (record { given = badArgument; latch = noLatch })
 
-unfoldable pub latchPutCall : List Latch → ℕ → Latch → TableSeen
-latchPutCall t i l = cond (there t i) (record { given = done; table = set t i l }) (record { given = badArgument; table = t })
-
--- its next written is the record written with that next
-abbrev pub nextCall : List Latch → ℕ → ℕ → TableSeen
-nextCall t i next = latchPutCall t i (withNext (getD t i noLatch) next)
+unfoldable pub nextCall : List Latch → ℕ → ℕ → TableSeen
+nextCall t i next = cond (there t i) (record { given = done; table = set t i (withNext (getD t i noLatch) next) }) (record { given = badArgument; table = t })
 
 -- any two results that a promise allows are equal
 pub latch-determined : (t : List Latch) (i : ℕ) (r s : Found) → foundSeen r ≡ latchCall t i → foundSeen s ≡ latchCall t i → (r .answer ≡ s .answer) × (r .latch ≡ s .latch)
@@ -49,10 +45,7 @@ latch-determined t i r s p q =
     let e = determined (latchCall t) i (foundSeen r) (foundSeen s) p q in
     (told-injective (r .answer) (s .answer) (ap (λ (z : LatchSeen). z .given) e), ap (λ (z : LatchSeen). z .latch) e)
 
-pub put-latch-determined : (t : List Latch) (i : ℕ) (l : Latch) (r s : Answer) (x y : List Latch) → tableSeen r x ≡ latchPutCall t i l → tableSeen s y ≡ latchPutCall t i l → (r ≡ s) × (x ≡ y)
-put-latch-determined t i l r s x y p q =
-    let e = determined (latchPutCall t i) l (tableSeen r x) (tableSeen s y) p q in
-    (told-injective r s (ap (λ (z : TableSeen). z .given) e), ap (λ (z : TableSeen). z .table) e)
-
 pub set-next-determined : (t : List Latch) (i next : ℕ) (r s : Answer) (x y : List Latch) → tableSeen r x ≡ nextCall t i next → tableSeen s y ≡ nextCall t i next → (r ≡ s) × (x ≡ y)
-set-next-determined t i next = put-latch-determined t i (withNext (getD t i noLatch) next)
+set-next-determined t i next r s x y p q =
+    let e = determined (nextCall t i) next (tableSeen r x) (tableSeen s y) p q in
+    (told-injective r s (ap (λ (z : TableSeen). z .given) e), ap (λ (z : TableSeen). z .table) e)

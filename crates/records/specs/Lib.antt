@@ -1,9 +1,11 @@
-pub mod Adding
+pub mod Calling
 pub mod Checking
 pub mod Counts
 pub mod Entries
 pub mod Held
+pub mod Local
 pub mod Meaning
 pub mod Pairing
 pub mod Table
 pub mod Working
+pub mod Steps

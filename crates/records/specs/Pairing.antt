@@ -1,35 +1,13 @@
 -- A flat call on two graphs for a caller that holds records of both: their words stand in lent work words while it runs.
 -- Assumes nothing.
-use Prim.Native.Nat.{ℕ, _*_}
+use Prim.Native.Nat.{ℕ}
 use mathlib.Core.Path.{_≡_, ap}
 use mathlib.Core.Bool.{cond, _&&_}
 use mathlib.Core.List.{List}
-use lib.ListN.{length, take, drop}
-use lib.Dec.{leb}
+use lib.ListN.{length}
 use Rattle.edge.specs.Answers.{determined}
 use Rattle.graph.specs.declared.latch.Latch.{Latch}
-use Rattle.graph.specs.Latches.{latchWords, latchesLent}
 use Rattle.records.specs.Table.{wordsOf, roomFor, wiped}
-
--- ---- on work words
--- the first n latches, and the words behind them
-abbrev pub front : ℕ → List ℕ → List ℕ
-front n words = take (latchWords * n) words
-
-abbrev pub behind : ℕ → List ℕ → List ℕ
-behind n words = drop (latchWords * n) words
-
--- what the flat call leaves to be seen, with the first latches as those of its graph, and the words behind them
-pub record Fronted (S : Type 0) : Type 0 where
-  pub seen : S
-  pub behind : List ℕ
-
-abbrev pub fronted : {S : Type 0} → S → List ℕ → Fronted S
-fronted s behind = record { seen = s; behind = behind }
-
-unfoldable pub onBoth : {S : Type 0} → ℕ → List ℕ → ℕ → List ℕ → (List ℕ → List ℕ → S) → (List ℕ → S) → Fronted S
-onBoth n words m words2 call refused =
-    fronted (cond (leb n (latchesLent words) && leb m (latchesLent words2)) (call (front n words) (front m words2)) (refused (front n words))) (behind n words)
 
 -- ---- on records
 -- what the flat call leaves to be seen, with the words that the first graph's records hold, and both work words

@@ -4,7 +4,7 @@ use Prim.Native.Nat.{ℕ, suc, _*_}
 use mathlib.Core.Path.{_≡_, refl, sym, ap, _∙_}
 use mathlib.Core.Bool.{Bool, cond}
 use mathlib.Core.List.{List, [], _∷_, _++_}
-use lib.ListN.{length, drop}
+use lib.ListN.{length, take, drop}
 use lib.Dec.{leb}
 use Rattle.edge.specs.Answers.{determined}
 use Rattle.graph.specs.declared.latch.Latch.{Latch}
@@ -39,9 +39,16 @@ copied n lent = cond (leb n lent) n 0
 abbrev pub roomFor : List Latch → List ℕ → Bool
 roomFor t words = leb (length t) (latchesLent words)
 
+-- the first n latches of work words, and the words behind them
+abbrev pub front : ℕ → List ℕ → List ℕ
+front n words = take (latchWords * n) words
+
+abbrev pub behind : ℕ → List ℕ → List ℕ
+behind n words = drop (latchWords * n) words
+
 -- the records' words in front, the others as they were; words with too little room stay
 unfoldable pub laidOut : List Latch → List ℕ → List ℕ
-laidOut t words = cond (roomFor t words) (wordsOf t ++ drop (latchWords * length t) words) words
+laidOut t words = cond (roomFor t words) (wordsOf t ++ behind (length t) words) words
 
 -- work words are zero over the first n latches, where there are so many; else untouched
 unfoldable pub wiped : ℕ → List ℕ → List ℕ

@@ -1,16 +1,13 @@
 -- A flat call for a caller that holds records: their words stand in lent work words while it runs.
 -- Assumes nothing.
-use Prim.Native.Nat.{ℕ, _*_}
+use Prim.Native.Nat.{ℕ}
 use mathlib.Core.Path.{_≡_, ap}
 use mathlib.Core.Bool.{cond}
 use mathlib.Core.List.{List}
-use lib.ListN.{length, take}
-use lib.Dec.{leb}
+use lib.ListN.{length}
 use Rattle.edge.specs.Answers.{determined}
 use Rattle.graph.specs.declared.latch.Latch.{Latch}
-use Rattle.graph.specs.Latches.{latchWords, latchesLent}
-use Rattle.graph.specs.Check.{cleared}
-use Rattle.records.specs.Table.{wordsOf, roomFor}
+use Rattle.records.specs.Table.{wordsOf, roomFor, wiped}
 
 -- what the flat call leaves to be seen, and the work words
 pub record Worked (S : Type 0) : Type 0 where
@@ -20,13 +17,9 @@ pub record Worked (S : Type 0) : Type 0 where
 abbrev pub worked : {S : Type 0} → S → List ℕ → Worked S
 worked s words = record { seen = s; words = words }
 
--- on the first n latches of the work words: where they are not so many, they are untouched and nothing else is done; else they are zero afterwards
-unfoldable pub onWords : {S : Type 0} → ℕ → List ℕ → (List ℕ → S) → S → Worked S
-onWords n words call refused = cond (leb n (latchesLent words)) (worked (call (take (latchWords * n) words)) (cleared (latchWords * n) words)) (worked refused words)
-
 -- on the words that the records hold: 1, with nothing touched, where the work words have no room for every record
 unfoldable pub onRecords : {S : Type 0} → List Latch → List ℕ → (List ℕ → S) → S → Worked S
-onRecords t words call refused = cond (roomFor t words) (worked (call (wordsOf t)) (cleared (latchWords * length t) words)) (worked refused words)
+onRecords t words call refused = worked (cond (roomFor t words) (call (wordsOf t)) refused) (wiped (length t) words)
 
 -- any two results that such a promise allows are equal: all that the flat call leaves to be seen, and the work words
 pub worked-determined : {S : Type 0} (t : List Latch) (words : List ℕ) (call : List ℕ → S) (refused r s : S) (x y : List ℕ) → worked r x ≡ onRecords t words call refused

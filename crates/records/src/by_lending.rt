@@ -1,9 +1,10 @@
 // The constructors in place for callers that hold the counts by value: the record is lent and comes back, and whoever calls these needs no proof by hand.
 ghost use mathlib.Core.Path.{_≡_};
-ghost use Rattle.build.specs.Calls.{addedSeen};
-ghost use Rattle.build.specs.Leaves.{newInputCall, addInputCall, newLatchCall, addLatchCall};
+ghost use Rattle.build_leaves.specs.Calls.{addedSeen};
+ghost use Rattle.build_leaves.specs.Leaves.{newInputCall, addInputCall};
+ghost use Rattle.build_latches.specs.Latches.{newLatchCall, addLatchCall};
 use crate::counts;
-use build::Added;
+use build_leaves::Added;
 use graph::Counts;
 
 // A new leaf that is an input.

@@ -1,7 +1,8 @@
 // The check of a graph whose latches are records.
 ghost use mathlib.Core.Path.{_≡_};
 ghost use Rattle.graph.specs.Check.{checkSeen};
-ghost use Rattle.records.specs.Working.{worked, onWords, onRecords};
+ghost use Rattle.records.specs.Working.{worked, onRecords};
+ghost use Rattle.records.specs.Steps.{onWords};
 ghost use Rattle.records.specs.Checking.{checkWith, checkRefused};
 use crate::words::to_words;
 use edge::Answer;

@@ -1,7 +1,8 @@
-// Constructors that change the counts in place: each is the call of `build` by value, read from the record and written back to it.
+// Constructors that change the counts in place: each is the call by value, read from the record and written back to it.
 ghost use mathlib.Core.Path.{_≡_};
-ghost use Rattle.build.specs.Calls.{addedSeen};
-ghost use Rattle.build.specs.Leaves.{newInputCall, addInputCall, newLatchCall, addLatchCall};
+ghost use Rattle.build_leaves.specs.Calls.{addedSeen};
+ghost use Rattle.build_leaves.specs.Leaves.{newInputCall, addInputCall};
+ghost use Rattle.build_latches.specs.Latches.{newLatchCall, addLatchCall};
 ghost use Rattle.records.specs.Counts.{added};
 use edge::Answer;
 use graph::Counts;
@@ -20,7 +21,7 @@ pub fn new_input(rows: &mut [u32], inputs: &mut [u32], counts: &mut Counts) -> L
         ⌝ }
 {
     let was = *counts;
-    let r = build::new_input(rows, inputs, was);
+    let r = build_leaves::new_input(rows, inputs, was);
     *counts = r.counts;
     Listed {
         answer: r.answer,
@@ -36,7 +37,7 @@ pub fn add_input(rows: &[u32], inputs: &mut [u32], counts: &mut Counts, input: u
         ⌝ }
 {
     let was = *counts;
-    let r = build::add_input(rows, inputs, was, input);
+    let r = build_leaves::add_input(rows, inputs, was, input);
     *counts = r.counts;
     Listed {
         answer: r.answer,
@@ -58,7 +59,7 @@ pub fn new_latch(
         ⌝ }
 {
     let was = *counts;
-    let r = build::new_latch(rows, latches, was, next, init);
+    let r = build_latches::new_latch(rows, latches, was, next, init);
     *counts = r.counts;
     Listed {
         answer: r.answer,
@@ -81,7 +82,7 @@ pub fn add_latch(
         ⌝ }
 {
     let was = *counts;
-    let r = build::add_latch(rows, latches, was, input, next, init);
+    let r = build_latches::add_latch(rows, latches, was, input, next, init);
     *counts = r.counts;
     Listed {
         answer: r.answer,

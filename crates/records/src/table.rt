@@ -1,6 +1,6 @@
-// One record of the latch table: read, its next written, written whole. An index past the table is 4.
+// One record of the latch table: read, and its next written. An index past the table is 4.
 ghost use mathlib.Core.Path.{_≡_};
-ghost use Rattle.records.specs.Entries.{foundSeen, latchCall, tableSeen, nextCall, latchPutCall};
+ghost use Rattle.records.specs.Entries.{foundSeen, latchCall, tableSeen, nextCall};
 use edge::Answer;
 use graph::latch::Latch;
 
@@ -34,16 +34,6 @@ pub fn set_next(table: &mut [Latch], i: usize, next: u32) -> Answer
 {
     if i < table.len() {
         table[i].next = next;
-        return Answer::Done;
-    }
-    Answer::BadArgument
-}
-
-pub fn put_latch(table: &mut [Latch], i: usize, latch: Latch) -> Answer
-    ensures { λ r. ⌜ tableSeen r (now (table .exit)) ≡ latchPutCall (now (table .entry)) i latch ⌝ }
-{
-    if i < table.len() {
-        table[i] = latch;
         return Answer::Done;
     }
     Answer::BadArgument

@@ -8,7 +8,7 @@ use mathlib.Core.Logic.{_⊎_, inl, inr, ⊎-elim}
 use mathlib.Core.List.{List}
 use lib.ListN.{length, getD}
 use lib.Dec.{eqb}
-use borrow.Author.Tests.{le-ltb, eqb-true}
+use borrow.Author.Tests.{eqb-true}
 use Rattle.edge.specs.Edges.{idOf}
 use Rattle.edge.specs.Answers.{done}
 use Rattle.edge.proofs.Tests.{false-true, lt-or-le}
@@ -20,11 +20,12 @@ use Rattle.graph.specs.Leaves.{member}
 use Rattle.graph.specs.Graph.{Lent, Sized}
 use Rattle.graph.specs.WellFormed.{listed, WellFormed}
 use Rattle.graph.proofs.Listed.{is-member}
-use Rattle.gates.specs.Gates.{first as firstEdge, second as secondEdge}
+use Rattle.gates.specs.Gates.{Sorted, first as firstEdge, second as secondEdge}
+use Rattle.gates.proofs.Ordering.{ordered}
 use Rattle.renumber.specs.Renumber.{renamed, renamedLatch}
-use Rattle.renumber.specs.Room.{Limited, Room}
+use Rattle.output.specs.Room.{Limited, Room}
 use Rattle.graph.proofs.Counting.{count-none, count-from}
-use Rattle.renumber.proofs.Fitting.{limits-true}
+use Rattle.output.proofs.Fitting.{limits-true}
 use Rattle.graph.specs.Count.{gatesBelow}
 use Rattle.reencode.specs.Numbers.{firstGate, newId, orphanAt, orphans}
 use Rattle.reencode.specs.Rebuilding.{rowsOf, reencoded}
@@ -43,11 +44,6 @@ same-edge m e h = go (eqb e none) refl
     go : (t : Bool) → eqb e none ≡ t → cond t none (2 * m (idOf e) + e % 2) ≡ e
     go true q = sym (eqb-true e none q)
     go false q = rw h (omega arith)
-
--- edges that are in order already
-sorted : (a b : ℕ) → idOf a ≤ idOf b → (firstEdge a b ≡ a) × (secondEdge a b ≡ b)
-unfolding firstEdge secondEdge
-sorted a b l = rw (le-ltb (idOf b) (idOf a) l) (refl, refl)
 
 module _ (g out : Lent) (marks : ℕ) (s : Sized g marks) (w : WellFormed g) (no : orphans g ≡ 0) (room : Room out (g .counts)) (limited : Limited out) where
   abbrev used : ℕ
@@ -121,13 +117,13 @@ module _ (g out : Lent) (marks : ℕ) (s : Sized g marks) (w : WellFormed g) (no
     init-kept e (inl q) = result.none-stays (newId new) e q ∙ sym q
     init-kept e (inr l) = edge-kept e l
 
-    gate-kept : (r : ℕ) → r < used → gateAt rows r ≡ true → idOf (word0 rows r) ≤ idOf (word1 rows r) → (word0 (last .rows) r ≡ word0 rows r) × (word1 (last .rows) r ≡ word1 rows r)
+    gate-kept : (r : ℕ) → r < used → gateAt rows r ≡ true → Sorted (word0 rows r) (word1 rows r) → (word0 (last .rows) r ≡ word0 rows r) × (word1 (last .rows) r ≡ word1 rows r)
     unfolding reencoded
     gate-kept r l h o =
         let b = gate-below r (word0 rows r) (word1 rows r) h in
         let x = edge-kept (word0 rows r) (omega (arith, b .0)) in
         let y = edge-kept (word1 rows r) (omega (arith, b .1)) in
-        let t = sorted (word0 rows r) (word1 rows r) o in
+        let t = ordered (word0 rows r) (word1 rows r) .stay o in
         let row = result.gate-is new out′ used new-sized new-formed no-orphan room′ limited′ r l h in
         (ap (word0 (last .rows)) (sym (kept r l)) ∙ (row .first ∙ (ap₂ firstEdge x y ∙ t .0)), ap (word1 (last .rows)) (sym (kept r l)) ∙ (row .second ∙ (ap₂ secondEdge x y ∙ t .1)))
 
@@ -148,12 +144,14 @@ module _ (g out : Lent) (marks : ℕ) (s : Sized g marks) (w : WellFormed g) (no
     row-kept : (r : ℕ) → r < used → (word0 (last .rows) r ≡ word0 rows r) × (word1 (last .rows) r ≡ word1 rows r)
     row-kept r l =
         ⊎-elim
-        (λ (p : 0 < r). ⊎-elim (λ (h : r < first). let e : r ≡ (r - 1) + 1 = omega arith in rw e (leaf-kept (r - 1) (omega arith))) (λ (h : first ≤ r). gate-kept r l (result.gate-there g out marks s w no room limited r h l) (result.gate-sorted g out marks s w no room limited r h l)) (lt-or-le r first))
-        (λ (z : r ≤ 0). let e : r ≡ 0 = omega arith in rw e zero-kept)
-        (lt-or-le 0 r)
+        (λ (p : 0 < r). ⊎-elim (λ (h : r < first). let e : r ≡ (r - 1) + 1 = omega arith in rw e (leaf-kept (r - 1) (omega arith)))
+        (λ (h : first ≤ r). gate-kept r l (result.gate-there g out marks s w no room limited r h l) (result.gate-sorted g out marks s w no room limited r h l)) (lt-or-le r first))
+        (λ (z : r ≤ 0). let e : r ≡ 0 = omega arith in rw e zero-kept) (lt-or-le 0 r)
 
     -- the lists
-    edges-kept : (list after : List ℕ) (n : ℕ) → ((j : ℕ) → j < n → getD after (0 + j) 0 ≡ renamed (newId new) (getD list j 0)) → ((j : ℕ) → j < n → idOf (getD list j 0) < used) → (j : ℕ) → j < n → getD after j 0 ≡ getD list j 0
+    edges-kept :
+        (list after : List ℕ) (n : ℕ) → ((j : ℕ) → j < n → getD after (0 + j) 0 ≡ renamed (newId new) (getD list j 0)) → ((j : ℕ) → j < n → idOf (getD list j 0) < used) → (j : ℕ) → j < n →
+        getD after j 0 ≡ getD list j 0
     edges-kept list after n e u j l = let z : 0 + j ≡ j = omega arith in ap (λ (k : ℕ). getD after k 0) (sym z) ∙ (e j l ∙ edge-kept (getD list j 0) (u j l))
 
     latch-kept : (l : Latch) → l .input < used → idOf (l .next) < used → (l .init ≡ none) ⊎ (idOf (l .init) < used) → renamedLatch (newId new) l ≡ l
@@ -169,7 +167,8 @@ module _ (g out : Lent) (marks : ℕ) (s : Sized g marks) (w : WellFormed g) (no
           first-words = λ i l. row-kept i l .0;
           second-words = λ i l. row-kept i l .1;
           inputs = λ j l. result.input-number new out′ used new-sized new-formed no-orphan room′ limited′ j l ∙ sym (result.input-number g out marks s w no room limited j l);
-          latches = λ j l. result.latch-entry new out′ used new-sized new-formed no-orphan room′ limited′ j l ∙ latch-kept (latchAt (new .latches) j) (new-formed .latches j l .0) (new-formed .nexts j l) (new-formed .inits j l);
+          latches = λ j l. result.latch-entry new out′ used new-sized new-formed no-orphan room′ limited′ j l ∙ latch-kept (latchAt (new .latches) j) (new-formed .latches j l .0)
+              (new-formed .nexts j l) (new-formed .inits j l);
           constraints = edges-kept (new .constraints) (last .constraints) (g .counts .constraints) (e .constraints) (new-formed .constraints);
           bads = edges-kept (new .bads) (last .bads) (g .counts .bads) (e .bads) (new-formed .bads);
           outputs = edges-kept (new .outputs) (last .outputs) (g .counts .outputs) (e .outputs) (new-formed .outputs);
@@ -184,4 +183,5 @@ module _ (g out : Lent) (marks : ℕ) (s : Sized g marks) (w : WellFormed g) (no
     where
       accepts : (out′ : Lent) (k : List ℕ) → Limited out′ → Room out′ (new .counts) → new .counts .rows ≤ length k → reencodeCall new out′ k .given ≡ done
       accepts out′ k l r h =
-          checked-accepts new out′ k (record { limited = limits-true out′ l; sized = result.renewed g out marks s w no room limited .sized (length k) h; well-formed = new-formed; no-orphan = no-orphan; room = r })
+          checked-accepts new out′ k
+          (record { limited = limits-true out′ l; sized = result.renewed g out marks s w no room limited .sized (length k) h; well-formed = new-formed; no-orphan = no-orphan; room = r })

@@ -14,14 +14,15 @@ use Rattle.graph.specs.Justice.{endIs, setOf}
 use Rattle.graph.specs.Graph.{Lent, lent, sizesRight}
 use Rattle.graph.specs.Check.{contents, checkCall}
 use Rattle.gates.specs.Gates.{rowAdded}
-use Rattle.roots.specs.Arguments.{argsCall}
-use Rattle.renumber.specs.Writing.{written}
+use Rattle.root_marks.specs.Arguments.{argsCall}
+use Rattle.output.specs.Writing.{written}
 use Rattle.graph.specs.Count.{countBelow}
 use Rattle.renumber.specs.Renumber.{renamed, renamedLatch, latchesWritten, renumber}
-use Rattle.renumber.specs.Room.{limitsOf, roomOf}
+use Rattle.output.specs.Room.{limitsIn, fitsIn}
+use Rattle.output.specs.Asking.{askedIn}
 use Rattle.reencode.specs.Numbers.{placeFrom, numbered, numberOf}
 use Rattle.reencode.specs.Rebuilding.{leavesAdded, gateAdded, gatesAdded, rowsOf, reencoded}
-use Rattle.reencode.specs.Call.{reencodeAsked, reencodeChecked, reencodeCall}
+use Rattle.reencode.specs.Call.{reencodeChecked, reencodeCall}
 
 abbrev counts : Counts
 counts = record { rows = 3; inputs = 1; latches = 1; constraints = 0; bads = 0; outputs = 0; sets = 0; edges = 0; fairness = 0 }
@@ -37,5 +38,7 @@ result = lent (falseWord ∷ 0 ∷ none ∷ 0 ∷ none ∷ 0 ∷ []) (1 ∷ []) 
 
 -- the answer, the whole graph and the marks
 pub m12 : reencodeCall given room (7 ∷ 7 ∷ 7 ∷ []) ≡ record { given = done; graph = result; marks = 0 ∷ 0 ∷ 0 ∷ [] }
-unfolding reencodeCall reencodeChecked reencodeAsked argsCall orElse checkCall contents firstFault firstBad sizesRight rowsFit fits member freeLeaf latchEdges isRow isFalseRow isLeaf isGate endIs setOf limitsOf roomOf reencoded rowsOf leavesAdded gatesAdded gateAdded rowAdded numberOf numbered placeFrom countBelow written latchesWritten latchSet renumber renamed renamedLatch latchInputs
+unfolding reencodeCall reencodeChecked askedIn argsCall orElse checkCall contents firstFault firstBad sizesRight rowsFit fits member freeLeaf latchEdges isRow isFalseRow isLeaf isGate endIs
+    setOf limitsIn fitsIn reencoded rowsOf leavesAdded gatesAdded gateAdded rowAdded numberOf numbered placeFrom countBelow written latchesWritten latchSet renumber renamed renamedLatch
+    latchInputs
 m12 = refl

@@ -35,7 +35,14 @@ pub none-leaf : (rows : List ℕ) (used i : ℕ) → used ≤ maxRows → AllRow
 unfolding isRow isFalseRow isGate
 none-leaf rows used i few all l e =
     ⊎-elim
-    (λ h. ⊎-elim (λ z. absurd (omega (arith, e, eqb-true (word0 rows i) falseWord (both {a = eqb i 0} {b = eqb (word0 rows i) falseWord} (both {a = eqb i 0 && eqb (word0 rows i) falseWord} {b = eqb (word1 rows i) 0} z .0) .1)))) (λ k. k) (either {a = isFalseRow i (word0 rows i) (word1 rows i)} h))
+    (λ h. ⊎-elim
+    (λ z. absurd
+    (omega (
+      arith,
+      e,
+      eqb-true (word0 rows i) falseWord (both {a = eqb i 0} {b = eqb (word0 rows i) falseWord} (both {a = eqb i 0 && eqb (word0 rows i) falseWord} {b = eqb (word1 rows i) 0} z .0) .1),
+    )))
+    (λ k. k) (either {a = isFalseRow i (word0 rows i) (word1 rows i)} h))
     (λ k. absurd (omega (arith, e, ltb-true (word0 rows i) (2 * i) (both {a = ltb (word0 rows i) (2 * i)} {b = ltb (word1 rows i) (2 * i)} k .0))))
     (either {a = isFalseRow i (word0 rows i) (word1 rows i) || isLeaf i (word0 rows i) (word1 rows i)} (all i l))
 
@@ -104,8 +111,11 @@ module _ (g : Lent) (marks : ℕ) (s : Sized g marks) (w : WellFormed g) where
   unfolding isRow isFalseRow
   leaf-or-gate i l p =
       ⊎-elim
-      (λ h. ⊎-elim (λ z. absurd (omega (arith, eqb-true i 0 (both {a = eqb i 0} {b = eqb (word0 (g .rows) i) falseWord} (both {a = eqb i 0 && eqb (word0 (g .rows) i) falseWord} {b = eqb (word1 (g .rows) i) 0} z .0) .0)))) (λ k. inl k) (either {a = isFalseRow i (word0 (g .rows) i) (word1 (g .rows) i)} h))
-      (λ k. inr k)
+      (λ h. ⊎-elim
+      (λ z. absurd
+      (omega
+      (arith, eqb-true i 0 (both {a = eqb i 0} {b = eqb (word0 (g .rows) i) falseWord} (both {a = eqb i 0 && eqb (word0 (g .rows) i) falseWord} {b = eqb (word1 (g .rows) i) 0} z .0) .0))))
+      (λ k. inl k) (either {a = isFalseRow i (word0 (g .rows) i) (word1 (g .rows) i)} h)) (λ k. inr k)
       (either {a = isFalseRow i (word0 (g .rows) i) (word1 (g .rows) i) || isLeaf i (word0 (g .rows) i) (word1 (g .rows) i)} (w .rows i l))
 
   pub leaf-gate : (i : ℕ) → i < used → leafAt (g .rows) i ≡ true → gateAt (g .rows) i ≡ false

@@ -8,5 +8,5 @@ pub mod Standing
 pub mod Mapping
 pub mod Result
 pub mod Again
-pub mod Right
+pub mod Meaning
 pub mod Cases

@@ -64,7 +64,9 @@ module _ (g : Lent) (marks : ℕ) (s : Sized g marks) (w : WellFormed g) where
         go false false o e = absurd (false-true e)
 
     pub kind : (i : ℕ) → i < used → Kind g i
-    kind i l = ⊎-elim (λ p. ⊎-elim (λ h. leaf (stands i (listed g) (leaf-listed i (l, h)))) (λ h. gate-row h (new-gate i h)) (leaf-or-gate g marks s w i l p)) (λ z. let e : i ≡ 0 = omega arith in false-row e (rw e new-zero)) (lt-or-le 0 i)
+    kind i l =
+        ⊎-elim (λ p. ⊎-elim (λ h. leaf (stands i (listed g) (leaf-listed i (l, h)))) (λ h. gate-row h (new-gate i h)) (leaf-or-gate g marks s w i l p))
+        (λ z. let e : i ≡ 0 = omega arith in false-row e (rw e new-zero)) (lt-or-le 0 i)
       where
         leaf : Stands i (listed g) → Kind g i
         leaf t =

@@ -16,13 +16,13 @@ use Rattle.rows.specs.Rows.{word0, word1, gateAt}
 use Rattle.rows.proofs.Laws.{gate-below}
 use Rattle.gates.specs.Gates.{addGate}
 use Rattle.renumber.specs.Renumber.{renamed, by}
-use Rattle.renumber.specs.Map.{Holds, Small}
+use Rattle.renumber.specs.Steps.{MarksHold, Small}
 use Rattle.graph.proofs.Counting.{count-more, count-rises}
 use Rattle.renumber.proofs.Mapping.{renamed-by, known}
 use Rattle.graph.specs.Count.{gatesBelow}
 use Rattle.reencode.specs.Numbers.{numbered}
 use Rattle.reencode.specs.Rebuilding.{gateAdded, gatesAdded}
-use Rattle.reencode.specs.Ready.{GateReady, GatesReady}
+use Rattle.reencode.specs.Steps.{GateReady, GatesReady}
 
 -- ---- one number
 module _ (rows : List ℕ) (first : ℕ) (f : ℕ → ℕ) (x : ℕ) where
@@ -47,7 +47,7 @@ numbered-small rows used first f few small x l = go (gateAt rows x)
     go false = small x l
 
 -- ---- a gate by maps that agree on the rows below it
-gate-same : (m : ℕ → ℕ) (map : List ℕ) (rows : List ℕ) (i k : ℕ) (out : List ℕ) → Holds i m map → gateAdded (by map) rows i k out ≡ gateAdded m rows i k out
+gate-same : (m : ℕ → ℕ) (map : List ℕ) (rows : List ℕ) (i k : ℕ) (out : List ℕ) → MarksHold i m map → gateAdded (by map) rows i k out ≡ gateAdded m rows i k out
 unfolding gateAdded
 gate-same m map rows i k out h = go (gateAt rows i) refl
   where
@@ -60,7 +60,7 @@ gate-same m map rows i k out h = go (gateAt rows i) refl
 
 -- ---- halfway: the rows below i have their numbers, and the marks of the others are as they were
 pub record Halfway (m : ℕ → ℕ) (old : List ℕ) (i : ℕ) (marks : List ℕ) : Type 0 where
-  pub below : Holds i m marks
+  pub below : MarksHold i m marks
   pub above : (x : ℕ) → i ≤ x → getD marks x 0 ≡ getD old x 0
 
 pub half-start : (m : ℕ → ℕ) (marks : List ℕ) → Halfway m marks 0 marks
@@ -79,7 +79,12 @@ module _ (rows : List ℕ) (first : ℕ) (old : List ℕ) (i : ℕ) {k : ℕ} {m
       go false = e
 
   pub half-turn : i < length marks → {after : List ℕ} → after ≡ cond (gateAt rows i) (set marks i k) marks → Halfway m old (i + 1) after
-  half-turn l w = record { below = λ x b. rw w (⊎-elim (λ q. same (gateAt rows i) refl x q) (λ u. other (gateAt rows i) x (λ q. absurd (omega arith)) ∙ h .below x (omega arith)) (eq-or-lt-of-le {n = suc x} {m = i + 1} (omega arith))); above = λ x b. rw w (other (gateAt rows i) x (λ q. absurd (omega arith)) ∙ h .above x (omega arith)) }
+  half-turn l w =
+      record {
+        below = λ x b. rw w
+            (⊎-elim (λ q. same (gateAt rows i) refl x q) (λ u. other (gateAt rows i) x (λ q. absurd (omega arith)) ∙ h .below x (omega arith)) (eq-or-lt-of-le {n = suc x} {m = i + 1} (omega arith)));
+        above = λ x b. rw w (other (gateAt rows i) x (λ q. absurd (omega arith)) ∙ h .above x (omega arith));
+      }
     where
       other : (t : Bool) (x : ℕ) → (x ≡ i → ⊥) → getD (cond t (set marks i k) marks) x 0 ≡ getD marks x 0
       other true x n = getD-set-other marks i x k 0 n
@@ -103,7 +108,9 @@ module _ (rows : List ℕ) (first : ℕ) (old : List ℕ) (i : ℕ) {k : ℕ} {m
   unfolding gatesAdded
   gates-turn out {now} q w =
       let s : i + 1 ≡ suc i = add-one i in
-      w ∙ (gate-same m marks rows i k now (h .below) ∙ (ap (λ (n : ℕ). gateAdded m rows i n now) e ∙ (ap (gateAdded m rows i (first + gatesBelow rows i)) q ∙ ap (λ (j : ℕ). gatesAdded m rows first out j) (sym s))))
+      w ∙
+      (gate-same m marks rows i k now (h .below) ∙
+      (ap (λ (n : ℕ). gateAdded m rows i n now) e ∙ (ap (gateAdded m rows i (first + gatesBelow rows i)) q ∙ ap (λ (j : ℕ). gatesAdded m rows first out j) (sym s))))
 
   pub gate-ready : (used : ℕ) → GatesReady rows used first old → i < used → length marks ≡ length old → GateReady rows i k marks
   gate-ready used r l s =
@@ -128,8 +135,9 @@ gates-same m n rows first out (suc i) h = rw (gates-same m n rows first out i (�
     rest : List ℕ
     rest = gatesAdded n rows first out i
 
-    go : (t : Bool) → gateAt rows i ≡ t
-        → cond t (addGate rest (first + gatesBelow rows i) (renamed m (word0 rows i)) (renamed m (word1 rows i)) .rows) rest ≡ cond t (addGate rest (first + gatesBelow rows i) (renamed n (word0 rows i)) (renamed n (word1 rows i)) .rows) rest
+    go :
+        (t : Bool) → gateAt rows i ≡ t → cond t (addGate rest (first + gatesBelow rows i) (renamed m (word0 rows i)) (renamed m (word1 rows i)) .rows) rest ≡ cond t
+        (addGate rest (first + gatesBelow rows i) (renamed n (word0 rows i)) (renamed n (word1 rows i)) .rows) rest
     go true e =
         let b = gate-below i (word0 rows i) (word1 rows i) e in
         rw (renamed-same m n (word0 rows i) (h (idOf (word0 rows i)) (omega (arith, b .0))), renamed-same m n (word1 rows i) (h (idOf (word1 rows i)) (omega (arith, b .1))))

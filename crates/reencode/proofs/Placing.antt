@@ -15,8 +15,9 @@ use borrow.Author.Tests.{eq-eqb, ne-eqb}
 use Rattle.edge.proofs.Tests.{false-true}
 use Rattle.graph.specs.Leaves.{member}
 use Rattle.graph.proofs.Listed.{Stands, stands, is-member}
-use Rattle.renumber.specs.Map.{Holds}
-use Rattle.reencode.specs.Numbers.{placeFrom, placeIn, placed}
+use Rattle.renumber.specs.Steps.{MarksHold}
+use Rattle.reencode.specs.Numbers.{placeFrom, placeIn}
+use Rattle.reencode.specs.Steps.{placed}
 
 -- ---- marks
 pub placed-length : (marks : List ℕ) (id : ℕ → ℕ) (k n : ℕ) → length (placed marks id k n) ≡ length marks
@@ -91,9 +92,9 @@ place-bound k (y ∷ ys) x = go (eqb x y) (place-bound (k + 1) ys x)
     go false h = omega arith
 
 -- ---- the marks hold the places
-module _ (used : ℕ) (marks list : List ℕ) (long : used ≤ length marks) (zeros : Holds used (λ (_ : ℕ). 0) marks) (within : (j : ℕ) → j < length list → getD list j 0 < used)
+module _ (used : ℕ) (marks list : List ℕ) (long : used ≤ length marks) (zeros : MarksHold used (λ (_ : ℕ). 0) marks) (within : (j : ℕ) → j < length list → getD list j 0 < used)
     (once : (i j : ℕ) → i < j → j < length list → getD list i 0 ≡ getD list j 0 → ⊥) where
-  pub places-hold : Holds used (placeIn list) (placed marks (λ (j : ℕ). getD list j 0) 1 (length list))
+  pub places-hold : MarksHold used (placeIn list) (placed marks (λ (j : ℕ). getD list j 0) 1 (length list))
   places-hold x l = go (member x list) refl
     where
       at : Stands x list → getD (placed marks (λ (j : ℕ). getD list j 0) 1 (length list)) x 0 ≡ placeIn list x

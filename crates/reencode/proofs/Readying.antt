@@ -12,16 +12,17 @@ use Rattle.graph.specs.Graph.{Lent, lent, Sized, noCounts}
 use Rattle.graph.specs.Check.{cleared}
 use Rattle.graph.specs.WellFormed.{WellFormed, leafList}
 use Rattle.graph.proofs.Listed.{all-long, input-at, latch-at}
-use Rattle.renumber.specs.Writing.{written}
-use Rattle.renumber.specs.Renumber.{idsOf, Lists, lists, listsOf, renumber, graphOf, by, IdsReady, ListsReady}
-use Rattle.renumber.specs.Map.{Holds, Small}
-use Rattle.renumber.proofs.Writing.{written-same}
-use Rattle.renumber.proofs.Mapping.{lists-used, renumber-by, known, lists-ready}
-use Rattle.renumber.proofs.Fitting.{lists-room}
+use Rattle.output.specs.Writing.{written}
+use Rattle.renumber.specs.Renumber.{idsOf, Lists, lists, listsOf, renumber, graphOf, by}
+use Rattle.renumber.specs.Steps.{IdsReady, ListsReady}
+use Rattle.renumber.specs.Steps.{MarksHold, Small}
+use Rattle.output.proofs.Writing.{written-same}
+use Rattle.renumber.proofs.Mapping.{lists-used, lists-room, renumber-by, known, lists-ready}
 use Rattle.graph.specs.Count.{gatesBelow}
-use Rattle.reencode.specs.Numbers.{placeIn, firstGate, numbered, numberOf, newId, placed}
+use Rattle.reencode.specs.Numbers.{placeIn, firstGate, numbered, numberOf, newId}
+use Rattle.reencode.specs.Steps.{placed}
 use Rattle.reencode.specs.Rebuilding.{leavesAdded, gatesAdded, rowsOf, reencoded}
-use Rattle.reencode.specs.Ready.{IdsMarked, GatesReady, RowsReady, Ready}
+use Rattle.reencode.specs.Steps.{IdsMarked, GatesReady, RowsReady, ReencodeReady}
 use Rattle.reencode.proofs.Placing.{placed-length, placed-same, placed-split, placed-beyond, place-bound, places-hold}
 use Rattle.reencode.proofs.Numbering.{numbered-same, numbered-small, gates-same}
 use Rattle.reencode.proofs.Leaving.{listed-leaf, rows-counted}
@@ -63,12 +64,14 @@ module _ (rows inputs latches : List ℕ) (n : Counts) (marks : List ℕ) (r : R
       -- inputs, then latches: the listed leaves
       both-placed : two ≡ placed marks (λ (j : ℕ). getD list j 0) 1 (length list)
       both-placed =
-          q
-          ∙ (ap (λ (x : List ℕ). placed x latchId (1 + n .inputs) (n .latches)) (p ∙ placed-same marks inputId (λ (j : ℕ). getD list j 0) 1 (n .inputs) (λ j l. sym (input-at inputs (n .inputs) latches (n .latches) (r .inputs-long) j l)))
-          ∙ (placed-same (placed marks (λ (j : ℕ). getD list j 0) 1 (n .inputs)) latchId (λ (j : ℕ). getD list (n .inputs + j) 0) (1 + n .inputs) (n .latches) (λ j l. sym (latch-at inputs (n .inputs) latches (n .latches) (r .inputs-long) j l))
-          ∙ (placed-split marks (λ (j : ℕ). getD list j 0) 1 (n .inputs) (n .latches) ∙ ap (placed marks (λ (j : ℕ). getD list j 0) 1) (sym long))))
+          q ∙
+          (ap (λ (x : List ℕ). placed x latchId (1 + n .inputs) (n .latches))
+          (p ∙ placed-same marks inputId (λ (j : ℕ). getD list j 0) 1 (n .inputs) (λ j l. sym (input-at inputs (n .inputs) latches (n .latches) (r .inputs-long) j l))) ∙
+          (placed-same (placed marks (λ (j : ℕ). getD list j 0) 1 (n .inputs)) latchId (λ (j : ℕ). getD list (n .inputs + j) 0) (1 + n .inputs) (n .latches)
+          (λ j l. sym (latch-at inputs (n .inputs) latches (n .latches) (r .inputs-long) j l)) ∙
+          (placed-split marks (λ (j : ℕ). getD list j 0) 1 (n .inputs) (n .latches) ∙ ap (placed marks (λ (j : ℕ). getD list j 0) 1) (sym long))))
 
-      leaves-held : Holds (n .rows) (placeIn list) two
+      leaves-held : MarksHold (n .rows) (placeIn list) two
       leaves-held x l = rw both-placed (places-hold (n .rows) marks list (r .marks-long) (r .zeros) (r .used) (r .once) x l)
 
       beyond : drop (n .rows) two ≡ drop (n .rows) marks
@@ -89,17 +92,20 @@ module _ (rows inputs latches : List ℕ) (n : Counts) (marks : List ℕ) (r : R
       same-number x l = numbered-same rows (firstGate n) (by two) (placeIn list) x (leaves-held x l)
 
       -- what is written
-      pub rows-written : (out three : List ℕ) {first last : List ℕ} → first ≡ leavesAdded out (n .inputs + n .latches) → last ≡ gatesAdded (numbered rows (firstGate n) (by two)) rows (firstGate n) first (n .rows)
-          → Holds (n .rows) (numbered rows (firstGate n) (by two)) three → drop (n .rows) three ≡ drop (n .rows) two
-          → (last ≡ rowsOf rows inputs latches n out) × (Holds (n .rows) (numberOf rows inputs latches n) three × (drop (n .rows) three ≡ drop (n .rows) marks))
+      pub rows-written :
+          (out three : List ℕ) {first last : List ℕ} → first ≡ leavesAdded out (n .inputs + n .latches) → last ≡ gatesAdded (numbered rows (firstGate n) (by two)) rows (firstGate n) first
+          (n .rows) → MarksHold (n .rows) (numbered rows (firstGate n) (by two)) three → drop (n .rows) three ≡ drop (n .rows) two → (last ≡ rowsOf rows inputs latches n out) ×
+          (MarksHold (n .rows) (numberOf rows inputs latches n) three × (drop (n .rows) three ≡ drop (n .rows) marks))
       unfolding rowsOf
       rows-written out three {first} a b h d = (
-        b ∙ (gates-same (numbered rows (firstGate n) (by two)) (numberOf rows inputs latches n) rows (firstGate n) first (n .rows) same-number ∙ ap (λ (x : List ℕ). gatesAdded (numberOf rows inputs latches n) rows (firstGate n) x (n .rows)) a),
+        b ∙
+            (gates-same (numbered rows (firstGate n) (by two)) (numberOf rows inputs latches n) rows (firstGate n) first (n .rows) same-number ∙ ap
+            (λ (x : List ℕ). gatesAdded (numberOf rows inputs latches n) rows (firstGate n) x (n .rows)) a),
         ((λ x l. h x l ∙ same-number x l), d ∙ beyond),
       )
 
 -- ---- a well-formed graph
-pub rows-ready : (g : Lent) (k : ℕ) → Sized g k → WellFormed g → (marks : List ℕ) → g .counts .rows ≤ length marks → Holds (g .counts .rows) (λ (_ : ℕ). 0) marks
+pub rows-ready : (g : Lent) (k : ℕ) → Sized g k → WellFormed g → (marks : List ℕ) → g .counts .rows ≤ length marks → MarksHold (g .counts .rows) (λ (_ : ℕ). 0) marks
     → RowsReady (g .rows) (g .inputs) (g .latches) (g .counts) marks
 rows-ready g k s w marks l z =
     record {
@@ -125,14 +131,14 @@ new-small g k s w =
     (λ x l. omega (arith, place-bound 1 list x, all-long (g .inputs) (g .counts .inputs) (g .latches) (g .counts .latches) (s .inputs .within)))
 
 -- ---- the whole graph, by the map that the marks hold
-module _ (g out : Lent) (marks : List ℕ) (r : Ready g out marks) where
+module _ (g out : Lent) (marks : List ℕ) (r : ReencodeReady g out marks) where
   pub to-rows : RowsReady (g .rows) (g .inputs) (g .latches) (g .counts) marks
   to-rows = rows-ready g (r .marked) (r .sized) (r .well-formed) marks (r .marks-long) (r .zeros)
 
   small : Small (g .counts .rows) (newId g)
   small = new-small g (r .marked) (r .sized) (r .well-formed)
 
-  module _ (map : List ℕ) (h : Holds (g .counts .rows) (newId g) map) (same : length map ≡ length marks) where
+  module _ (map : List ℕ) (h : MarksHold (g .counts .rows) (newId g) map) (same : length map ≡ length marks) where
     long′ : g .counts .rows ≤ length map
     long′ = omega (arith, same, r .marks-long)
 
@@ -148,7 +154,8 @@ module _ (g out : Lent) (marks : List ℕ) (r : Ready g out marks) where
     to-lists e =
         rw e (
           omega arith,
-          lists-ready (g .counts .rows) (newId g) map h small long′ (listsOf out) noCounts (listsOf g) (g .counts) (lists-used g (r .marked) (r .sized) (r .well-formed)) (lists-room out (g .counts) (r .room)) (omega arith),
+          lists-ready (g .counts .rows) (newId g) map h small long′ (listsOf out) noCounts (listsOf g) (g .counts) (lists-used g (r .marked) (r .sized) (r .well-formed))
+              (lists-room out (g .counts) (r .room)) (omega arith),
         )
 
     pub all-written : {at : Counts} → at ≡ noCounts → {a b c d e f i j k : List ℕ} → a ≡ rowsOf (g .rows) (g .inputs) (g .latches) (g .counts) (out .rows)

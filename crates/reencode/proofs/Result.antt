@@ -3,12 +3,11 @@
 use Prim.Native.Nat.{ℕ, zero, _+_, _-_, _≤_, _<_}
 use native.Mathlib.Omega.{arith}
 use mathlib.Core.Path.{_≡_, refl, sym, ap, _∙_}
-use mathlib.Core.Bool.{Bool, true, false, cond, _||_, or-true}
+use mathlib.Core.Bool.{true, false, _||_, or-true}
 use mathlib.Core.Logic.{_⊎_, inl, inr, ⊎-elim}
 use mathlib.Core.List.{List}
 use lib.ListN.{length, getD}
-use lib.Dec.{ltb}
-use borrow.Author.Tests.{lt-ltb, ltb-true, ltb-false, eq-eqb}
+use borrow.Author.Tests.{lt-ltb, eq-eqb}
 use Rattle.edge.specs.Edges.{idOf}
 use Rattle.edge.proofs.Tests.{false-true, lt-or-le}
 use Rattle.rows.specs.Sizes.{maxRows, Fit, rowsLent}
@@ -20,16 +19,18 @@ use Rattle.graph.specs.Latches.{latchAt}
 use Rattle.graph.specs.Graph.{Lent, Sized, noCounts}
 use Rattle.graph.specs.WellFormed.{listed, WellFormed}
 use Rattle.graph.proofs.Listed.{all-long, input-at, latch-at}
-use Rattle.gates.specs.Gates.{first as firstEdge, second as secondEdge}
-use Rattle.gates.proofs.Growing.{order-used, is-gate}
+use Rattle.gates.specs.Gates.{Sorted, first as firstEdge, second as secondEdge}
+use Rattle.gates.proofs.Ordering.{ordered, order-used}
+use Rattle.gates.proofs.Growing.{is-gate}
 use Rattle.renumber.specs.Renumber.{renamed, renamedLatch, idsOf, edgesOf, endsOf, listsOf, renumber}
-use Rattle.renumber.specs.Room.{Limited, Room}
+use Rattle.output.specs.Room.{Limited, Room}
 use Rattle.renumber.specs.Entries.{Renumbered}
 use Rattle.renumber.specs.Meaning.{Carried}
-use Rattle.renumber.proofs.Writing.{written-length, written-at, latches-length}
+use Rattle.output.proofs.Writing.{written-length, written-at}
+use Rattle.renumber.proofs.Writing.{latches-length}
 use Rattle.renumber.proofs.Carrying.{renamed-row, same-values}
 use Rattle.graph.proofs.Counting.{Counted, counted}
-use Rattle.renumber.proofs.Fitting.{lists-room}
+use Rattle.renumber.proofs.Mapping.{lists-room}
 use Rattle.renumber.proofs.Entering.{renumbered}
 use Rattle.graph.specs.Count.{gatesBelow}
 use Rattle.reencode.specs.Numbers.{firstGate, newId, orphans}
@@ -38,7 +39,7 @@ use Rattle.reencode.specs.Meaning.{InOrder, Renewed}
 use Rattle.reencode.proofs.Standing.{Row, leaves-long, zero-stands, leaf-stands, gates-long, below-stands, gate-stands}
 use Rattle.reencode.proofs.Leaving.{zero-no-leaf, zero-no-gate, leaf-gate, rows-counted}
 use Rattle.reencode.proofs.Mapping.{Kind, new-zero, new-listed, new-gate, kind, new-within, new-below, one-to-one}
-use Rattle.reencode.proofs.Mapping.Kind.{false-row, listed-row, gate-row}
+use Rattle.reencode.proofs.Mapping.{false-row, listed-row, gate-row}
 
 pub none-stays : (m : ℕ → ℕ) (e : ℕ) → e ≡ none → renamed m e ≡ none
 unfolding renamed
@@ -63,23 +64,6 @@ is-row-leaf i a b h = rw (h, or-true (isFalseRow i a b))
 is-row-gate : (i a b : ℕ) → isGate i a b ≡ true → isRow i a b ≡ true
 unfolding isRow
 is-row-gate i a b h = rw (h, or-true (isFalseRow i a b || isLeaf i a b))
-
--- the two edges of a new gate, in either order, and the smaller id first
-pub edges-order : (a b : ℕ) → idOf (firstEdge a b) ≤ idOf (secondEdge a b)
-unfolding firstEdge secondEdge
-edges-order a b = go (ltb (idOf b) (idOf a)) refl
-  where
-    go : (t : Bool) → ltb (idOf b) (idOf a) ≡ t → idOf (cond t b a) ≤ idOf (cond t a b)
-    go true e = omega (arith, ltb-true (idOf b) (idOf a) e)
-    go false e = ltb-false (idOf b) (idOf a) e
-
-edges-either : (a b x y : ℕ) → x ≡ firstEdge a b → y ≡ secondEdge a b → ((x ≡ a) × (y ≡ b)) ⊎ ((x ≡ b) × (y ≡ a))
-unfolding firstEdge secondEdge
-edges-either a b x y p q = go (ltb (idOf b) (idOf a)) p q
-  where
-    go : (t : Bool) → x ≡ cond t b a → y ≡ cond t a b → ((x ≡ a) × (y ≡ b)) ⊎ ((x ≡ b) × (y ≡ a))
-    go true p q = inr (p, q)
-    go false p q = inl (p, q)
 
 module _ (g out : Lent) (marks : ℕ) (s : Sized g marks) (w : WellFormed g) (no : orphans g ≡ 0) (room : Room out (g .counts)) (limited : Limited out) where
   abbrev used : ℕ
@@ -146,7 +130,8 @@ module _ (g out : Lent) (marks : ℕ) (s : Sized g marks) (w : WellFormed g) (no
       let x : idOf (renamed m (word0 (g .rows) i)) < m i = rw (edge-row (word0 (g .rows) i) (omega (arith, b .0))) (new-below g marks s w no (idOf (word0 (g .rows) i)) i (b .0) l h) in
       let y : idOf (renamed m (word1 (g .rows) i)) < m i = rw (edge-row (word1 (g .rows) i) (omega (arith, b .1))) (new-below g marks s w no (idOf (word1 (g .rows) i)) i (b .1) l h) in
       let o = order-used (m i) (renamed m (word0 (g .rows) i)) (renamed m (word1 (g .rows) i)) x y in
-      gate-words rows (m i) (firstEdge (renamed m (word0 (g .rows) i)) (renamed m (word1 (g .rows) i))) (secondEdge (renamed m (word0 (g .rows) i)) (renamed m (word1 (g .rows) i))) (gate-is i l h) (o .0) (o .1)
+      gate-words rows (m i) (firstEdge (renamed m (word0 (g .rows) i)) (renamed m (word1 (g .rows) i))) (secondEdge (renamed m (word0 (g .rows) i)) (renamed m (word1 (g .rows) i)))
+      (gate-is i l h) (o .0) (o .1)
 
   leaf-moved : (i : ℕ) → i < used → leafAt (g .rows) i ≡ true → leafAt rows (m i) ≡ true
   leaf-moved i l h = go (kind g marks s w no i l)
@@ -162,7 +147,7 @@ module _ (g out : Lent) (marks : ℕ) (s : Sized g marks) (w : WellFormed g) (no
         zero = new-zero g marks s w;
         within = λ i l k. new-within g marks s w no i l;
         leaves = λ i l k h. leaf-moved i l h;
-        gates = λ i l k h. (new-gate-at i l h, edges-either (renamed m (word0 (g .rows) i)) (renamed m (word1 (g .rows) i)) (word0 rows (m i)) (word1 rows (m i)) (gate-is i l h .first) (gate-is i l h .second));
+        gates = λ i l k h. (new-gate-at i l h, rw (gate-is i l h .first, gate-is i l h .second) (ordered (renamed m (word0 (g .rows) i)) (renamed m (word1 (g .rows) i)) .either));
         fanins = λ i l k h. let b = gate-below i (word0 (g .rows) i) (word1 (g .rows) i) h in (omega (arith, b .0), omega (arith, b .1));
       }
 
@@ -182,8 +167,8 @@ module _ (g out : Lent) (marks : ℕ) (s : Sized g marks) (w : WellFormed g) (no
   all-rows : AllRows rows used
   all-rows i u =
       ⊎-elim
-      (λ (p : 0 < i). ⊎-elim (λ (l : i < first). is-row-leaf i (word0 rows i) (word1 rows i) (leaf-there i p l)) (λ (l : first ≤ i). is-row-gate i (word0 rows i) (word1 rows i) (gate-there i l u)) (lt-or-le i first))
-      (λ (z : i ≤ 0). let e : i ≡ 0 = omega arith in rw e (is-row-false rows zero-is))
+      (λ (p : 0 < i). ⊎-elim (λ (l : i < first). is-row-leaf i (word0 rows i) (word1 rows i) (leaf-there i p l))
+      (λ (l : first ≤ i). is-row-gate i (word0 rows i) (word1 rows i) (gate-there i l u)) (lt-or-le i first)) (λ (z : i ≤ 0). let e : i ≡ 0 = omega arith in rw e (is-row-false rows zero-is))
       (lt-or-le 0 i)
 
   -- rows before the gates are none
@@ -195,12 +180,11 @@ module _ (g out : Lent) (marks : ℕ) (s : Sized g marks) (w : WellFormed g) (no
       (lt-or-le 0 i)
 
   -- a new gate's edges are in order
-  pub gate-sorted : (i : ℕ) → first ≤ i → i < used → idOf (word0 rows i) ≤ idOf (word1 rows i)
+  pub gate-sorted : (i : ℕ) → first ≤ i → i < used → Sorted (word0 rows i) (word1 rows i)
   gate-sorted i l u =
       let c = gate-from i l u in
       let r = gate-is (c .at) (c .within) (c .such) in
-      let o = edges-order (renamed m (word0 (g .rows) (c .at))) (renamed m (word1 (g .rows) (c .at))) in
-      rw (← (gate-to i l u), r .first, r .second) o
+      rw (← (gate-to i l u), r .first, r .second) (ordered (renamed m (word0 (g .rows) (c .at))) (renamed m (word1 (g .rows) (c .at))) .sorted)
 
   -- ---- the lists
   pub entries : Renumbered m noCounts (listsOf g) (g .counts) (listsOf new)
@@ -209,7 +193,9 @@ module _ (g out : Lent) (marks : ℕ) (s : Sized g marks) (w : WellFormed g) (no
 
   pub input-entry : (j : ℕ) → j < g .counts .inputs → getD (new .inputs) j 0 ≡ m (getD (g .inputs) j 0)
   unfolding reencoded
-  input-entry j l = let z : 0 + j ≡ j = omega arith in ap (λ (k : ℕ). getD (new .inputs) k 0) (sym z) ∙ written-at (out .inputs) 0 (idsOf m (g .inputs)) (g .counts .inputs) j (omega (arith, room .inputs)) l
+  input-entry j l =
+      let z : 0 + j ≡ j = omega arith in
+      ap (λ (k : ℕ). getD (new .inputs) k 0) (sym z) ∙ written-at (out .inputs) 0 (idsOf m (g .inputs)) (g .counts .inputs) j (omega (arith, room .inputs)) l
 
   pub input-number : (j : ℕ) → j < g .counts .inputs → getD (new .inputs) j 0 ≡ 1 + j
   input-number j l =
@@ -288,7 +274,9 @@ module _ (g out : Lent) (marks : ℕ) (s : Sized g marks) (w : WellFormed g) (no
       fitting e a b = record { within = omega arith; limited = omega arith }
 
   -- ---- well-formed
-  used-edges : (list after : List ℕ) (n : ℕ) → ((j : ℕ) → j < n → getD after (0 + j) 0 ≡ renamed m (getD list j 0)) → ((j : ℕ) → j < n → idOf (getD list j 0) < used) → (j : ℕ) → j < n → idOf (getD after j 0) < used
+  used-edges :
+      (list after : List ℕ) (n : ℕ) → ((j : ℕ) → j < n → getD after (0 + j) 0 ≡ renamed m (getD list j 0)) → ((j : ℕ) → j < n → idOf (getD list j 0) < used) → (j : ℕ) → j < n → idOf
+      (getD after j 0) < used
   used-edges list after n e u j l =
       let z : 0 + j ≡ j = omega arith in
       let q : getD after j 0 ≡ renamed m (getD list j 0) = ap (λ (k : ℕ). getD after k 0) (sym z) ∙ e j l in

@@ -107,12 +107,13 @@ module _ (m : ℕ → ℕ) (rows : List ℕ) (first : ℕ) (out : List ℕ) wher
   gate-stands (suc n) i room l g =
       let s : suc n ≡ n + 1 = omega arith in
       let room′ : first + gatesBelow rows (n + 1) ≤ rowsLent out = rw (← s) room in
-      ⊎-elim
-      (λ (e : suc i ≡ suc n). let q : n ≡ i = omega arith in here n q room′)
-      (λ (h : suc i < suc n). stays n (first + gatesBelow rows i) (a i) (b i) room′ (omega (arith, count-past (gateAt rows) n i (omega arith) g)) (gate-stands n i (omega (arith, less n)) (omega arith) g))
-      (eq-or-lt-of-le l)
+      ⊎-elim (λ (e : suc i ≡ suc n). let q : n ≡ i = omega arith in here n q room′)
+      (λ (h : suc i < suc n). stays n (first + gatesBelow rows i) (a i) (b i) room′ (omega (arith, count-past (gateAt rows) n i (omega arith) g))
+      (gate-stands n i (omega (arith, less n)) (omega arith) g)) (eq-or-lt-of-le l)
     where
-      here : (n : ℕ) → n ≡ i → first + gatesBelow rows (n + 1) ≤ rowsLent out → Row (gateAdded m rows n (first + gatesBelow rows n) (gatesAdded m rows first out n)) (first + gatesBelow rows i) (a i) (b i)
+      here :
+          (n : ℕ) → n ≡ i → first + gatesBelow rows (n + 1) ≤ rowsLent out → Row (gateAdded m rows n (first + gatesBelow rows n) (gatesAdded m rows first out n)) (first + gatesBelow rows i)
+          (a i) (b i)
       here n q room =
           let c : gatesBelow rows (i + 1) ≡ gatesBelow rows i + 1 = count-more (gateAt rows) i ∙ rw g in
           let room′ : first + gatesBelow rows (i + 1) ≤ rowsLent out = rw (← q) room in

@@ -14,7 +14,8 @@ use Rattle.rows.specs.Rows.{none, word0, word1, gateAt}
 use Rattle.rows.proofs.Laws.{gate-below}
 use Rattle.gates.specs.declared.Grown.{Grown}
 use Rattle.gates.specs.Gates.{State, stateOf, rowAdded, addGate}
-use Rattle.renumber.specs.Renumber.{renamed, Known, MappedEdge}
+use Rattle.renumber.specs.Renumber.{renamed}
+use Rattle.renumber.specs.Steps.{Known, MappedEdge}
 use Rattle.reencode.specs.Rebuilding.{leavesAdded, gateAdded}
 
 -- ---- leaves

@@ -1,5 +1,5 @@
 pub mod Numbers
 pub mod Rebuilding
-pub mod Ready
 pub mod Call
 pub mod Meaning
+pub mod Steps

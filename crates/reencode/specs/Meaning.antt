@@ -5,16 +5,16 @@ use mathlib.Core.Path.{_≡_}
 use mathlib.Core.Bool.{true}
 use mathlib.Core.List.{List}
 use lib.ListN.{length, getD}
-use Rattle.edge.specs.Edges.{idOf}
 use Rattle.edge.specs.Answers.{done}
 use Rattle.rows.specs.Rows.{word0, word1, gateAt}
 use Rattle.graph.specs.Leaves.{member}
 use Rattle.graph.specs.Latches.{latchAt}
 use Rattle.graph.specs.Graph.{Lent, Sized, noCounts}
 use Rattle.graph.specs.WellFormed.{UsedLeaf, listed, WellFormed}
+use Rattle.gates.specs.Gates.{Sorted}
 use Rattle.renumber.specs.Renumber.{listsOf}
 use Rattle.graph.specs.Exactly.{Answers}
-use Rattle.renumber.specs.Room.{limits, hasRoom, Limited, Room}
+use Rattle.output.specs.Room.{limits, hasRoom, Limited, Room}
 use Rattle.renumber.specs.Entries.{Renumbered}
 use Rattle.renumber.specs.Meaning.{Carried, SameValues}
 use Rattle.reencode.specs.Numbers.{newId}
@@ -44,7 +44,7 @@ pub record InOrder (g after : Lent) : Type 0 where
   pub inputs : (j : ℕ) → j < g .counts .inputs → getD (after .inputs) j 0 ≡ 1 + j
   pub latches : (j : ℕ) → j < g .counts .latches → latchAt (after .latches) j .input ≡ 1 + (g .counts .inputs + j)
   pub gates : (i j : ℕ) → i < j → j < g .counts .rows → gateAt (g .rows) j ≡ true → newId g i < newId g j
-  pub fanins : (i : ℕ) → i < g .counts .rows → gateAt (after .rows) i ≡ true → idOf (word0 (after .rows) i) ≤ idOf (word1 (after .rows) i)
+  pub fanins : (i : ℕ) → i < g .counts .rows → gateAt (after .rows) i ≡ true → Sorted (word0 (after .rows) i) (word1 (after .rows) i)
 
 -- `after` is g with its rows numbered anew: each row, and each edge to one, has the same value where it went
 pub record Renewed (g after : Lent) : Type 0 where

@@ -1,9 +1,8 @@
 -- The new numbers: "`reencode` numbers inputs, latches, then gates in row order".
 -- Assumes nothing.
-use Prim.Native.Nat.{ℕ, zero, suc, _+_}
+use Prim.Native.Nat.{ℕ, _+_}
 use mathlib.Core.List.{List, [], _∷_}
 use mathlib.Core.Bool.{Bool, cond, not, _&&_}
-use lib.ListN.{set}
 use lib.Dec.{eqb}
 use Rattle.rows.specs.Rows.{leafAt, gateAt}
 use Rattle.graph.specs.declared.Counts.{Counts}
@@ -43,8 +42,3 @@ orphanAt g x = leafAt (g .rows) x && not (member x (listed g))
 -- how many of the used rows are orphans
 abbrev pub orphans : Lent → ℕ
 orphans g = countBelow (orphanAt g) (g .counts .rows)
-
--- the marks of rows id 0, id 1, .. id (n - 1) hold the numbers from k on
-unfoldable pub placed : List ℕ → (ℕ → ℕ) → ℕ → ℕ → List ℕ
-placed marks id k zero = marks
-placed marks id k (suc n) = set (placed marks id k n) (id n) (k + n)

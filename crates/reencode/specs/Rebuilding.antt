@@ -7,7 +7,7 @@ use Rattle.rows.specs.Rows.{word0, word1, gateAt}
 use Rattle.graph.specs.declared.Counts.{Counts}
 use Rattle.graph.specs.Graph.{Lent, noCounts}
 use Rattle.gates.specs.Gates.{firstRow, leafAdded, addGate}
-use Rattle.renumber.specs.Writing.{written}
+use Rattle.output.specs.Writing.{written}
 use Rattle.renumber.specs.Renumber.{renamed, idsOf, listsOf, renumber, graphOf}
 use Rattle.graph.specs.Count.{gatesBelow}
 use Rattle.reencode.specs.Numbers.{firstGate, numberOf, newId}

@@ -5,10 +5,10 @@ ghost use Prim.Native.Nat.{_+_};
 ghost use lib.ListN.{set, drop};
 ghost use Rattle.rows.specs.Rows.{gateAt};
 ghost use Rattle.renumber.specs.Renumber.{by};
-ghost use Rattle.renumber.specs.Map.{Holds};
+ghost use Rattle.renumber.specs.Steps.{MarksHold};
 ghost use Rattle.reencode.specs.Numbers.{numbered};
 ghost use Rattle.reencode.specs.Rebuilding.{gateAdded, gatesAdded};
-ghost use Rattle.reencode.specs.Ready.{GateReady, GatesReady};
+ghost use Rattle.reencode.specs.Steps.{GateReady, GatesReady};
 use gates::add_gate;
 use renumber::renamed_edge;
 use rows::kinds::is_gate;
@@ -36,7 +36,7 @@ fn rebuild_gate(rows: &[u32], i: usize, out: &mut [u32], k: usize, marks: &mut [
 pub fn rebuild_gates(rows: &[u32], used: usize, out: &mut [u32], first: usize, marks: &mut [u32])
     requires { ⌜ GatesReady (now rows) used first (now marks) ⌝ }
     ensures { λ _. ⌜ now (out .exit) ≡ gatesAdded (numbered (now (rows .entry)) first (by (now (marks .entry)))) (now (rows .entry)) first (now (out .entry)) used ⌝ }
-    ensures { λ _. ⌜ Holds used (numbered (now (rows .entry)) first (by (now (marks .entry)))) (now (marks .exit)) ⌝ }
+    ensures { λ _. ⌜ MarksHold used (numbered (now (rows .entry)) first (by (now (marks .entry)))) (now (marks .exit)) ⌝ }
     ensures { λ _. ⌜ drop used (now (marks .exit)) ≡ drop used (now (marks .entry)) ⌝ }
 {
     let mut k = first;

@@ -6,24 +6,25 @@ ghost use mathlib.Core.Path.{_≡_};
 ghost use lib.ListN.{drop};
 ghost use Rattle.graph.specs.Graph.{lent};
 ghost use Rattle.graph.specs.Check.{cleared, checkSeen};
-ghost use Rattle.renumber.specs.Map.{Holds};
+ghost use Rattle.renumber.specs.Steps.{MarksHold};
 ghost use Rattle.reencode.specs.Numbers.{numberOf};
 ghost use Rattle.reencode.specs.Rebuilding.{rowsOf, reencoded};
-ghost use Rattle.reencode.specs.Ready.{RowsReady, Ready};
+ghost use Rattle.reencode.specs.Steps.{RowsReady, ReencodeReady};
 ghost use Rattle.renumber.specs.Seen.{rebuiltSeen};
 ghost use Rattle.reencode.specs.Call.{reencodeChecked, reencodeCall};
 use edge::Answer;
 use gate_rows::rebuild_gates;
 use graph::Counts;
+use graph::latch::LATCH_WORDS;
 use graph::marks::clear;
 use graph::no_counts;
 use leaves::count_leaves;
 use leaves::number_inputs;
 use leaves::number_latches;
 use leaves::write_leaves;
+use output::fits;
+use output::within;
 use renumber::Rebuilt;
-use renumber::output::has_room;
-use renumber::output::limits;
 use renumber::write_ids;
 use renumber::write_lists;
 
@@ -38,7 +39,7 @@ fn write_rows(
 )
     requires { ⌜ RowsReady (now rows) (now inputs) (now latches) counts (now marks) ⌝ }
     ensures { λ _. ⌜ now (rows2 .exit) ≡ rowsOf (now (rows .entry)) (now (inputs .entry)) (now (latches .entry)) counts (now (rows2 .entry)) ⌝ }
-    ensures { λ _. ⌜ Holds (counts .rows) (numberOf (now (rows .entry)) (now (inputs .entry)) (now (latches .entry)) counts) (now (marks .exit)) ⌝ }
+    ensures { λ _. ⌜ MarksHold (counts .rows) (numberOf (now (rows .entry)) (now (inputs .entry)) (now (latches .entry)) counts) (now (marks .exit)) ⌝ }
     ensures { λ _. ⌜ drop (counts .rows) (now (marks .exit)) ≡ drop (counts .rows) (now (marks .entry)) ⌝ }
 {
     number_inputs(inputs, counts.inputs, marks);
@@ -72,7 +73,7 @@ fn rebuild(
     marks: &mut [u32],
 )
     requires { ⌜
-        Ready (lent (now rows) (now inputs) (now latches) (now constraints) (now bads) (now outputs) (now ends) (now edges) (now fairness) counts)
+        ReencodeReady (lent (now rows) (now inputs) (now latches) (now constraints) (now bads) (now outputs) (now ends) (now edges) (now fairness) counts)
         (lent (now rows2) (now inputs2) (now latches2) (now constraints2) (now bads2) (now outputs2) (now ends2) (now edges2) (now fairness2) counts) (now marks)
         ⌝ }
     ensures { λ _. ⌜
@@ -107,7 +108,7 @@ fn rebuild(
     clear(marks, counts.rows);
 }
 
-// Answers 1 to 5. Inputs and latches list each leaf once, so that a leaf is an orphan exactly if there are more leaves than entries.
+// Answers 1 to 5, where there is so much room for the output. Inputs and latches list each leaf once, so that a leaf is an orphan exactly if there are more leaves than entries.
 fn checked(
     rows: &[u32],
     inputs: &[u32],
@@ -119,36 +120,17 @@ fn checked(
     edges: &[u32],
     fairness: &[u32],
     counts: Counts,
-    rows2: &[u32],
-    inputs2: &[u32],
-    latches2: &[u32],
-    constraints2: &[u32],
-    bads2: &[u32],
-    outputs2: &[u32],
-    ends2: &[u32],
-    edges2: &[u32],
-    fairness2: &[u32],
+    room: Counts,
     marks: &mut [u32],
 ) -> Answer
     ensures { λ r. ⌜
         checkSeen r (now (marks .exit))
         ≡ reencodeChecked
         (lent (now (rows .entry)) (now (inputs .entry)) (now (latches .entry)) (now (constraints .entry)) (now (bads .entry)) (now (outputs .entry)) (now (ends .entry)) (now (edges .entry)) (now (fairness .entry)) counts)
-        (lent (now (rows2 .entry)) (now (inputs2 .entry)) (now (latches2 .entry)) (now (constraints2 .entry)) (now (bads2 .entry)) (now (outputs2 .entry)) (now (ends2 .entry)) (now (edges2 .entry)) (now (fairness2 .entry)) counts)
-        (now (marks .entry))
+        room (now (marks .entry))
         ⌝ }
 {
-    if !limits(
-        rows2,
-        inputs2,
-        latches2,
-        constraints2,
-        bads2,
-        outputs2,
-        ends2,
-        edges2,
-        fairness2,
-    ) {
+    if !within(room) {
         return Answer::BadSizes;
     }
     let answer = graph::check(
@@ -170,18 +152,7 @@ fn checked(
     if count_leaves(rows, counts.rows) != counts.inputs + counts.latches {
         return Answer::BadArgument;
     }
-    if !has_room(
-        rows2,
-        inputs2,
-        latches2,
-        constraints2,
-        bads2,
-        outputs2,
-        ends2,
-        edges2,
-        fairness2,
-        counts,
-    ) {
+    if !fits(room, counts) {
         return Answer::NoRoom;
     }
     answer
@@ -220,6 +191,17 @@ pub fn reencode(
         (now (marks .entry))
         ⌝ }
 {
+    let room = Counts {
+        rows: rows2.len() / 2,
+        inputs: inputs2.len(),
+        latches: latches2.len() / LATCH_WORDS,
+        constraints: constraints2.len(),
+        bads: bads2.len(),
+        outputs: outputs2.len(),
+        sets: ends2.len(),
+        edges: edges2.len(),
+        fairness: fairness2.len(),
+    };
     let answer = checked(
         rows,
         inputs,
@@ -231,15 +213,7 @@ pub fn reencode(
         edges,
         fairness,
         counts,
-        rows2,
-        inputs2,
-        latches2,
-        constraints2,
-        bads2,
-        outputs2,
-        ends2,
-        edges2,
-        fairness2,
+        room,
         marks,
     );
     if edge::is_done(answer) {

@@ -13,17 +13,18 @@ use Rattle.graph.specs.Leaves.{member, freeLeaf, latchEdges}
 use Rattle.graph.specs.Justice.{endIs, setOf}
 use Rattle.graph.specs.Graph.{Lent, lent, sizesRight}
 use Rattle.graph.specs.Check.{contents, checkCall}
-use Rattle.roots.specs.Arguments.{argsCall}
+use Rattle.root_marks.specs.Arguments.{argsCall}
 use Rattle.coi.specs.Coi.{latchOf, stepsAt, visited, visitedAll, drained, searched}
-use Rattle.renumber.specs.Writing.{written}
+use Rattle.output.specs.Writing.{written}
 use Rattle.graph.specs.Count.{countBelow}
 use Rattle.renumber.specs.Renumber.{renamed, renamedLatch, latchesWritten, renumber}
-use Rattle.renumber.specs.Room.{limitsOf, roomOf}
-use Rattle.keep.specs.Kept.{initRoot, initRoots, refineRoots, keptFlags}
-use Rattle.keep.specs.Keeping.{keptWritten, newId, withKept}
-use Rattle.keep.specs.Copying.{rowWord, rowPut}
+use Rattle.output.specs.Room.{limitsIn, fitsIn}
+use Rattle.output.specs.Asking.{askedIn}
+use Rattle.kept_rows.specs.Kept.{initRoot, initRoots, refineRoots, keptFlags}
+use Rattle.kept_rows.specs.Keeping.{keptWritten, keptId, withKept}
+use Rattle.kept_rows.specs.Copying.{rowWord, rowPut}
 use Rattle.refine.specs.Refining.{refined, oldRows}
-use Rattle.refine.specs.Call.{refineAsked, refineAnswer, refineCall}
+use Rattle.refine.specs.Call.{refineAnswer, refineCall}
 
 -- leaves 1, 2, 3; 4 = (4, 6), 5 = (2, 4); inputs 1, 2; latch (3, 8, 5); output 8
 abbrev counts : Counts
@@ -43,6 +44,10 @@ abbrev result : Lent
 result = lent (falseWord ∷ 0 ∷ none ∷ 0 ∷ none ∷ 0 ∷ 2 ∷ 4 ∷ 7 ∷ []) (1 ∷ 7 ∷ []) (2 ∷ 6 ∷ 3 ∷ []) [] [] (6 ∷ []) [] [] [] fewer
 
 -- the answer, the whole graph, the new-to-old list and the marks; words beyond stay
-pub two-rows-dropped : refineCall given room (7 ∷ 7 ∷ 7 ∷ 7 ∷ 7 ∷ []) (7 ∷ 7 ∷ 7 ∷ 7 ∷ 7 ∷ 7 ∷ 7 ∷ []) ≡ record { given = done; graph = result; old = 0 ∷ 2 ∷ 3 ∷ 4 ∷ 7 ∷ []; marks = 0 ∷ 0 ∷ 0 ∷ 0 ∷ 0 ∷ 0 ∷ 7 ∷ [] }
-unfolding refineCall refineAnswer refineAsked argsCall orElse checkCall contents firstFault firstBad sizesRight rowsFit fits member freeLeaf latchEdges isRow isFalseRow isLeaf isGate endIs setOf limitsOf roomOf refined oldRows keptFlags refineRoots initRoots initRoot latchInputs searched drained visitedAll visited stepsAt latchOf keptWritten rowPut rowWord newId withKept countBelow written latchesWritten latchSet renumber renamed renamedLatch
+pub two-rows-dropped :
+    refineCall given room (7 ∷ 7 ∷ 7 ∷ 7 ∷ 7 ∷ []) (7 ∷ 7 ∷ 7 ∷ 7 ∷ 7 ∷ 7 ∷ 7 ∷ []) ≡ record
+    { given = done; graph = result; old = 0 ∷ 2 ∷ 3 ∷ 4 ∷ 7 ∷ []; marks = 0 ∷ 0 ∷ 0 ∷ 0 ∷ 0 ∷ 0 ∷ 7 ∷ [] }
+unfolding refineCall refineAnswer askedIn argsCall orElse checkCall contents firstFault firstBad sizesRight rowsFit fits member freeLeaf latchEdges isRow isFalseRow isLeaf isGate endIs setOf
+    limitsIn fitsIn refined oldRows keptFlags refineRoots initRoots initRoot latchInputs searched drained visitedAll visited stepsAt latchOf keptWritten rowPut rowWord keptId withKept countBelow
+    written latchesWritten latchSet renumber renamed renamedLatch
 two-rows-dropped = refl

@@ -21,13 +21,14 @@ use Rattle.graph.specs.WellFormed.{UsedLeaf, listed, WellFormed}
 use Rattle.graph.proofs.Listed.{all-long, input-at, latch-at}
 use Rattle.graph.specs.Count.{countBelow}
 use Rattle.renumber.specs.Renumber.{renamed, renamedLatch, edgesOf, endsOf, idsOf, listsOf, renumber}
-use Rattle.renumber.specs.Room.{Limited, Room}
+use Rattle.output.specs.Room.{Limited, Room}
 use Rattle.renumber.specs.Entries.{SameEntries, Renumbered}
-use Rattle.renumber.proofs.Writing.{written-length, latches-length}
+use Rattle.output.proofs.Writing.{written-length}
+use Rattle.renumber.proofs.Writing.{latches-length}
 use Rattle.renumber.proofs.Carrying.{renamed-row}
-use Rattle.keep.specs.Keeping.{keptInput, withKept}
-use Rattle.keep.specs.Copying.{rowsKept, inputsKept}
-use Rattle.refine.specs.Refining.{isKept, newRow, countsOf, refined, oldRows}
+use Rattle.kept_rows.specs.Keeping.{keptInput, withKept}
+use Rattle.kept_rows.specs.Copying.{rowsKept, inputsKept}
+use Rattle.refine.specs.Refining.{isKept, newRow, refinedCounts, refined, oldRows}
 use Rattle.refine.specs.Meaning.{Kept, KeptEdges, inputPlace, Refined}
 use Rattle.refine.proofs.Result.{limit, coi, in-order, within, apart, some-row, named, carried, values, all-rows, inverse, input-from, entries}
 use Rattle.refine.proofs.Standing.{words-long, rows-long}
@@ -45,7 +46,7 @@ one-place g w i j h k e =
     (λ (l : j ≤ i). ⊎-elim (λ (r : j ≡ i). sym r) (λ (r : j < i). absurd (w .once j i r h (sym e))) (eq-or-lt-of-le l))
     (lt-or-le i j)
 
-module _ (g out : Lent) (marks : ℕ) (s : Sized g marks) (w : WellFormed g) (room : Room out (countsOf g)) (limited : Limited out) where
+module _ (g out : Lent) (marks : ℕ) (s : Sized g marks) (w : WellFormed g) (room : Room out (refinedCounts g)) (limited : Limited out) where
   abbrev used : ℕ
   used = g .counts .rows
 
@@ -230,7 +231,7 @@ module _ (g out : Lent) (marks : ℕ) (s : Sized g marks) (w : WellFormed g) (ro
         no-sets = w .no-sets;
       }
 
-  pub is-refined : (old : List ℕ) → countsOf g .rows ≤ length old → Refined g (refined g out) (oldRows g old)
+  pub is-refined : (old : List ℕ) → refinedCounts g .rows ≤ length old → Refined g (refined g out) (oldRows g old)
   unfolding refined withKept
   is-refined old old-room =
       record {

@@ -3,5 +3,5 @@ pub mod Call
 pub mod Standing
 pub mod Result
 pub mod Forming
-pub mod Right
+pub mod Meaning
 pub mod Cases

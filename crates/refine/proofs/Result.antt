@@ -24,20 +24,20 @@ use Rattle.coi.specs.Meaning.Reached.{always, latch}
 use Rattle.coi.proofs.Searching.{On, on-at}
 use Rattle.graph.specs.Count.{countBelow}
 use Rattle.renumber.specs.Renumber.{renamed, idsOf, listsOf, renumber}
-use Rattle.renumber.specs.Map.{ListsRoom}
-use Rattle.renumber.specs.Room.{Room}
+use Rattle.renumber.specs.Steps.{ListsRoom}
+use Rattle.output.specs.Room.{Room}
 use Rattle.renumber.specs.Entries.{Renumbered}
 use Rattle.renumber.specs.Meaning.{Carried, SameValues}
 use Rattle.graph.proofs.Counting.{count-within, count-past, count-apart, Counted, counted}
 use Rattle.renumber.proofs.Carrying.{renamed-edge, same-values}
-use Rattle.renumber.proofs.Fitting.{lists-room}
+use Rattle.renumber.proofs.Mapping.{lists-room}
 use Rattle.renumber.proofs.Entering.{renumbered}
-use Rattle.keep.specs.Kept.{initRoots, listRoots, refineRoots, keptFlags}
-use Rattle.keep.specs.Keeping.{keptRow, newId, keptInput, withKept}
-use Rattle.keep.specs.Copying.{rowWord, rowsKept, inputsKept}
-use Rattle.refine.specs.Refining.{isKept, newRow, countsOf, oldRows}
+use Rattle.kept_rows.specs.Kept.{initRoots, listRoots, refineRoots, keptFlags}
+use Rattle.kept_rows.specs.Keeping.{keptRow, keptId, keptInput, withKept}
+use Rattle.kept_rows.specs.Copying.{rowWord, rowsKept, inputsKept}
+use Rattle.refine.specs.Refining.{isKept, newRow, refinedCounts, oldRows}
 use Rattle.refine.specs.Meaning.{Kept, NamedKept, InputFrom, Inverse}
-use Rattle.keep.proofs.Reaching.{kept-coi, input-reached, edge-on, init-reached}
+use Rattle.kept_rows.proofs.Reaching.{kept-coi, input-reached, edge-on, init-reached}
 use Rattle.refine.proofs.Standing.{word-at, first-at, second-at}
 
 -- ---- a row's kind, by its words
@@ -99,7 +99,7 @@ module _ (g : Lent) (marks : ℕ) (s : Sized g marks) (w : WellFormed g) where
   zero-kept = coi .reached 0 always
 
   pub number : (i : ℕ) → Kept g i → newRow g i ≡ countBelow (isKept g) i
-  unfolding newId
+  unfolding keptId
   number i k = rw (is-kept i k)
 
   pub number-zero : newRow g 0 ≡ 0
@@ -154,16 +154,19 @@ module _ (g : Lent) (marks : ℕ) (s : Sized g marks) (w : WellFormed g) where
         inits = λ j l. init j l (eqb (latchAt (g .latches) j .init) none) refl;
         constraints = λ j l. named-edge (getD (g .constraints) j 0) (Memᴰ·append-left (b ++ (o ++ (e ++ f))) (list-on (g .constraints) (g .counts .constraints) j (s .constraints .within) l));
         bads = λ j l. named-edge (getD (g .bads) j 0) (Memᴰ·append-right c (Memᴰ·append-left (o ++ (e ++ f)) (list-on (g .bads) (g .counts .bads) j (s .bads .within) l)));
-        outputs = λ j l. named-edge (getD (g .outputs) j 0) (Memᴰ·append-right c (Memᴰ·append-right b (Memᴰ·append-left (e ++ f) (list-on (g .outputs) (g .counts .outputs) j (s .outputs .within) l))));
-        edges = λ j l. named-edge (getD (g .edges) j 0) (Memᴰ·append-right c (Memᴰ·append-right b (Memᴰ·append-right o (Memᴰ·append-left f (list-on (g .edges) (g .counts .edges) j (s .edges .within) l)))));
-        fairness = λ j l. named-edge (getD (g .fairness) j 0) (Memᴰ·append-right c (Memᴰ·append-right b (Memᴰ·append-right o (Memᴰ·append-right e (list-on (g .fairness) (g .counts .fairness) j (s .fairness .within) l)))));
+        outputs = λ j l. named-edge (getD (g .outputs) j 0)
+            (Memᴰ·append-right c (Memᴰ·append-right b (Memᴰ·append-left (e ++ f) (list-on (g .outputs) (g .counts .outputs) j (s .outputs .within) l))));
+        edges = λ j l. named-edge (getD (g .edges) j 0)
+            (Memᴰ·append-right c (Memᴰ·append-right b (Memᴰ·append-right o (Memᴰ·append-left f (list-on (g .edges) (g .counts .edges) j (s .edges .within) l)))));
+        fairness = λ j l. named-edge (getD (g .fairness) j 0)
+            (Memᴰ·append-right c (Memᴰ·append-right b (Memᴰ·append-right o (Memᴰ·append-right e (list-on (g .fairness) (g .counts .fairness) j (s .fairness .within) l)))));
       }
     where
       init : (j : ℕ) → j < g .counts .latches → (t : Bool) → eqb (latchAt (g .latches) j .init) none ≡ t → (latchAt (g .latches) j .init ≡ none) ⊎ Kept g (idOf (latchAt (g .latches) j .init))
       init j l true q = inl (eqb-true (latchAt (g .latches) j .init) none q)
       init j l false q = inr (coi .reached (idOf (latchAt (g .latches) j .init)) (init-reached g marks s w j l (eqb-false (latchAt (g .latches) j .init) none q)))
 
-  module _ (out : Lent) (room : Room out (countsOf g)) where
+  module _ (out : Lent) (room : Room out (refinedCounts g)) where
     abbrev rows : List ℕ
     rows = rowsKept (isKept g) (newRow g) (g .rows) (out .rows) used
 
@@ -227,7 +230,10 @@ module _ (g : Lent) (marks : ℕ) (s : Sized g marks) (w : WellFormed g) where
 
     row-carried : (i : ℕ) → i < used → Kept g i → rowAt rows (m i) ≡ true
     unfolding isRow isFalseRow
-    row-carried i l k = ⊎-elim (λ h. ⊎-elim zero-row (λ h. row-leaf (m i) (word0 rows (m i)) (word1 rows (m i)) (leaf-carried i l k h)) (either {a = isFalseRow i (word0 (g .rows) i) (word1 (g .rows) i)} h)) (λ h. row-gate (m i) (word0 rows (m i)) (word1 rows (m i)) (gate-carried i l k h)) (either {a = isFalseRow i (word0 (g .rows) i) (word1 (g .rows) i) || isLeaf i (word0 (g .rows) i) (word1 (g .rows) i)} (w .rows i l))
+    row-carried i l k =
+        ⊎-elim (λ h. ⊎-elim zero-row (λ h. row-leaf (m i) (word0 rows (m i)) (word1 rows (m i)) (leaf-carried i l k h)) (either {a = isFalseRow i (word0 (g .rows) i) (word1 (g .rows) i)} h))
+        (λ h. row-gate (m i) (word0 rows (m i)) (word1 rows (m i)) (gate-carried i l k h))
+        (either {a = isFalseRow i (word0 (g .rows) i) (word1 (g .rows) i) || isLeaf i (word0 (g .rows) i) (word1 (g .rows) i)} (w .rows i l))
       where
         zero-row : isFalseRow i (word0 (g .rows) i) (word1 (g .rows) i) ≡ true → isRow (m i) (word0 rows (m i)) (word1 rows (m i)) ≡ true
         zero-row h =
@@ -244,7 +250,7 @@ module _ (g : Lent) (marks : ℕ) (s : Sized g marks) (w : WellFormed g) where
     all-rows k l = let c = came k l in subst (λ (x : ℕ). rowAt rows x ≡ true) (number (c .at) (kept-is (c .at) (c .such)) ∙ c .count) (row-carried (c .at) (c .within) (kept-is (c .at) (c .such)))
 
     -- ---- the new-to-old list
-    module _ (old : List ℕ) (old-room : countsOf g .rows ≤ length old) where
+    module _ (old : List ℕ) (old-room : refinedCounts g .rows ≤ length old) where
       old-at : (i : ℕ) → i < used → Kept g i → getD (oldRows g old) (newRow g i) 0 ≡ i
       unfolding oldRows withKept
       old-at i l k = rw (number i k) (word-at p (λ (j : ℕ). j) old used i old-room l (is-kept i k))
@@ -288,7 +294,7 @@ module _ (g : Lent) (marks : ℕ) (s : Sized g marks) (w : WellFormed g) where
     pub other-room : ListsRoom (listsOf out) noCounts (g .counts)
     unfolding withKept
     other-room =
-        let t = lists-room out (countsOf g) room in
+        let t = lists-room out (refinedCounts g) room in
         record { latches = t .latches; constraints = t .constraints; bads = t .bads; outputs = t .outputs; ends = t .ends; edges = t .edges; fairness = t .fairness }
 
     pub entries : Renumbered (newRow g) noCounts (listsOf g) (g .counts) (renumber (newRow g) (listsOf out) noCounts (listsOf g) (g .counts))

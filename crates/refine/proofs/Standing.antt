@@ -14,9 +14,9 @@ use Rattle.rows.specs.Sizes.{rowsLent}
 use Rattle.rows.specs.Rows.{word0, word1}
 use Rattle.graph.specs.Count.{countBelow}
 use Rattle.graph.proofs.Counting.{count-past}
-use Rattle.keep.specs.Keeping.{keptWritten, wordPut}
-use Rattle.keep.specs.Copying.{rowWord, rowPut, rowsKept}
-use Rattle.keep.proofs.Copying.{row-put-length}
+use Rattle.kept_rows.specs.Keeping.{keptWritten, wordPut}
+use Rattle.kept_rows.specs.Copying.{rowWord, rowPut, rowsKept}
+use Rattle.kept_rows.proofs.Copying.{row-put-length}
 
 -- ---- things of any kind: `size` says how many a list has room for
 module _ (p : ℕ → Bool) (put : List ℕ → ℕ → ℕ → List ℕ) (size : List ℕ → ℕ) (same-size : (l : List ℕ) (k i : ℕ) → size (put l k i) ≡ size l) (out : List ℕ) where
@@ -30,7 +30,8 @@ module _ (p : ℕ → Bool) (put : List ℕ → ℕ → ℕ → List ℕ) (size 
       go false e = e
 
   -- `read l k` is what stands at place k
-  module _ (read : List ℕ → ℕ → ℕ) (thing : ℕ → ℕ) (here : (l : List ℕ) (k i : ℕ) → k < size l → read (put l k i) k ≡ thing i) (other : (l : List ℕ) (k i j : ℕ) → (j ≡ k → ⊥) → read (put l k i) j ≡ read l j) where
+  module _ (read : List ℕ → ℕ → ℕ) (thing : ℕ → ℕ) (here : (l : List ℕ) (k i : ℕ) → k < size l → read (put l k i) k ≡ thing i)
+      (other : (l : List ℕ) (k i j : ℕ) → (j ≡ k → ⊥) → read (put l k i) j ≡ read l j) where
     kept-at : (n i : ℕ) → countBelow p n ≤ size out → i < n → p i ≡ true → read (keptWritten p put out n) (countBelow p i) ≡ thing i
     unfolding keptWritten countBelow
     kept-at zero i room l t = absurd (omega arith)

@@ -1,4 +1,4 @@
 pub mod Refining
-pub mod Ready
 pub mod Call
 pub mod Meaning
+pub mod Steps

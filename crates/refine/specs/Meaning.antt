@@ -12,16 +12,16 @@ use Rattle.graph.specs.Latches.{latchAt}
 use Rattle.graph.specs.Graph.{Lent, Sized, noCounts}
 use Rattle.graph.specs.WellFormed.{WellFormed}
 use Rattle.graph.specs.Exactly.{Answers}
-use Rattle.roots.specs.Flags.{Flagged}
+use Rattle.root_marks.specs.Flags.{Flagged}
 use Rattle.coi.specs.Meaning.{IsCoi}
 use Rattle.graph.specs.Count.{countBelow}
 use Rattle.renumber.specs.Renumber.{listsOf}
-use Rattle.renumber.specs.Room.{limits, Limited, Room}
+use Rattle.output.specs.Room.{roomIn, limits, Limited, Room}
 use Rattle.renumber.specs.Entries.{Renumbered}
 use Rattle.renumber.specs.Meaning.{Carried, SameValues}
-use Rattle.keep.specs.Kept.{refineRoots, keptFlags}
-use Rattle.keep.specs.Keeping.{keptInput}
-use Rattle.refine.specs.Refining.{isKept, newRow, countsOf}
+use Rattle.kept_rows.specs.Kept.{refineRoots, keptFlags}
+use Rattle.kept_rows.specs.Keeping.{keptInput}
+use Rattle.refine.specs.Refining.{isKept, newRow, refinedCounts}
 use Rattle.refine.specs.Call.{refineRoom, refineCall}
 
 -- row i is kept
@@ -65,7 +65,7 @@ pub record Inverse (g : Lent) (used′ : ℕ) (old : List ℕ) : Type 0 where
 
 -- `after` is g without the rows that are not kept, and `old` says which are
 pub record Refined (g after : Lent) (old : List ℕ) : Type 0 where
-  pub counts : after .counts ≡ countsOf g
+  pub counts : after .counts ≡ refinedCounts g
   -- the kept rows are those that `coi` flags from the roots
   pub is-coi : IsCoi g (refineRoots g) (keptFlags g)
   -- "kept rows keep their order"
@@ -87,8 +87,8 @@ pub record RefineLent (g out : Lent) (old marks : List ℕ) : Type 0 where
   pub limited : Limited out
   pub sized : Sized g (length marks)
   pub well-formed : WellFormed g
-  pub room : Room out (countsOf g)
-  pub old-room : countsOf g .rows ≤ length old
+  pub room : Room out (refinedCounts g)
+  pub old-room : refinedCounts g .rows ≤ length old
 
 -- `coi_refine` is done exactly where what is lent is right and there is room, and then the output is the graph without the rows that are not kept. Else the output and the
 -- new-to-old list are as they were.
@@ -96,6 +96,6 @@ pub record RefineRight (g out : Lent) (old marks : List ℕ) : Type 0 where
   pub accepts : RefineLent g out old marks → refineCall g out old marks .given .number ≡ 0
   pub accepted : refineCall g out old marks .given .number ≡ 0 → RefineLent g out old marks
   -- each answer exactly in its case, and the marks
-  pub answers : Answers (limits out) true (refineRoom g out (length old)) g marks (refineCall g out old marks .given) (refineCall g out old marks .marks)
+  pub answers : Answers (limits out) true (refineRoom g (roomIn out) (length old)) g marks (refineCall g out old marks .given) (refineCall g out old marks .marks)
   pub refines : refineCall g out old marks .given .number ≡ 0 → Refined g (refineCall g out old marks .graph) (refineCall g out old marks .old)
   pub refused : (refineCall g out old marks .given .number ≡ 0 → ⊥) → (refineCall g out old marks .graph ≡ out) × (refineCall g out old marks .old ≡ old)

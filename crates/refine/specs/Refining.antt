@@ -6,20 +6,20 @@ use mathlib.Core.Bool.{Bool}
 use Rattle.graph.specs.declared.Counts.{Counts}
 use Rattle.graph.specs.Graph.{Lent, noCounts}
 use Rattle.renumber.specs.Renumber.{listsOf, renumber, graphOf}
-use Rattle.keep.specs.Kept.{keptFlags}
-use Rattle.keep.specs.Keeping.{keptRow, newId, keptCounts}
-use Rattle.keep.specs.Copying.{rowsKept, inputsKept, oldKept}
+use Rattle.kept_rows.specs.Kept.{keptFlags}
+use Rattle.kept_rows.specs.Keeping.{keptRow, keptId, keptCounts}
+use Rattle.kept_rows.specs.Copying.{rowsKept, inputsKept, oldKept}
 
 -- is row i kept, and its new number
 abbrev pub isKept : Lent → ℕ → Bool
 isKept g = keptRow (keptFlags g)
 
 abbrev pub newRow : Lent → ℕ → ℕ
-newRow g = newId (keptFlags g)
+newRow g = keptId (keptFlags g)
 
 -- the counts of the result
-abbrev pub countsOf : Lent → Counts
-countsOf g = keptCounts (keptFlags g) (g .inputs) (g .counts)
+abbrev pub refinedCounts : Lent → Counts
+refinedCounts g = keptCounts (keptFlags g) (g .inputs) (g .counts)
 
 -- every column under the one map, into the room of `out`
 unfoldable pub refined : Lent → Lent → Lent
@@ -28,7 +28,7 @@ refined g out =
     (rowsKept (isKept g) (newRow g) (g .rows) (out .rows) (g .counts .rows))
     (inputsKept (isKept g) (newRow g) (g .inputs) (out .inputs) (g .counts .inputs))
     (renumber (newRow g) (listsOf out) noCounts (listsOf g) (g .counts))
-    (countsOf g)
+    (refinedCounts g)
 
 -- "the new-to-old list comes back"
 unfoldable pub oldRows : Lent → List ℕ → List ℕ

@@ -1,83 +1,26 @@
 // A graph without the rows that its roots do not reach: they and all below, across latches, are written in order into another graph.
 ghost use mathlib.Core.Path.{_≡_};
 ghost use Rattle.graph.specs.Graph.{lent};
-ghost use Rattle.graph.specs.Check.{checkSeen};
-ghost use Rattle.refine.specs.Ready.{WriteReady};
-ghost use Rattle.refine.specs.Refining.{countsOf, refined, oldRows};
-ghost use Rattle.renumber.specs.Seen.{listedSeen, foundSeen};
-ghost use Rattle.refine.specs.Call.{refineAsked, refineChecked, refineCall};
+ghost use Rattle.refine.specs.Steps.{WriteReady};
+ghost use Rattle.refine.specs.Refining.{refinedCounts, refined, oldRows};
+ghost use Rattle.renumber.specs.Seen.{listedSeen};
+ghost use Rattle.renumber.specs.Steps.{foundSeen};
+ghost use Rattle.refine.specs.Steps.{refineChecked};
+ghost use Rattle.refine.specs.Call.{refineCall};
 use edge::Answer;
 use graph::Counts;
+use graph::latch::LATCH_WORDS;
 use graph::marks::clear;
 use graph::no_counts;
-use keep::copies::write_inputs;
-use keep::copies::write_rows;
-use keep::number_kept;
+use kept_rows::copies::write_inputs;
+use kept_rows::copies::write_rows;
+use kept_rows::number_kept;
+use output::asked;
+use output::fits;
 use renumber::Rebuilt;
-use renumber::output::has_room;
-use renumber::output::limits;
 use renumber::write_lists;
 
-// Answers 1 to 3.
-fn asked(
-    rows: &[u32],
-    inputs: &[u32],
-    latches: &[u32],
-    constraints: &[u32],
-    bads: &[u32],
-    outputs: &[u32],
-    ends: &[u32],
-    edges: &[u32],
-    fairness: &[u32],
-    counts: Counts,
-    rows2: &[u32],
-    inputs2: &[u32],
-    latches2: &[u32],
-    constraints2: &[u32],
-    bads2: &[u32],
-    outputs2: &[u32],
-    ends2: &[u32],
-    edges2: &[u32],
-    fairness2: &[u32],
-    marks: &mut [u32],
-) -> Answer
-    ensures { λ r. ⌜
-        checkSeen r (now (marks .exit))
-        ≡ refineAsked
-        (lent (now (rows .entry)) (now (inputs .entry)) (now (latches .entry)) (now (constraints .entry)) (now (bads .entry)) (now (outputs .entry)) (now (ends .entry)) (now (edges .entry)) (now (fairness .entry)) counts)
-        (lent (now (rows2 .entry)) (now (inputs2 .entry)) (now (latches2 .entry)) (now (constraints2 .entry)) (now (bads2 .entry)) (now (outputs2 .entry)) (now (ends2 .entry)) (now (edges2 .entry)) (now (fairness2 .entry)) counts)
-        (now (marks .entry))
-        ⌝ }
-{
-    if !limits(
-        rows2,
-        inputs2,
-        latches2,
-        constraints2,
-        bads2,
-        outputs2,
-        ends2,
-        edges2,
-        fairness2,
-    ) {
-        return Answer::BadSizes;
-    }
-    graph::check(
-        rows,
-        inputs,
-        latches,
-        constraints,
-        bads,
-        outputs,
-        ends,
-        edges,
-        fairness,
-        counts,
-        marks,
-    )
-}
-
-// Answers 1, 2, 3 or 5, where so many words are lent for the new-to-old list. Where no answer is left, the counts are those of the result, and the marks of the used rows hold their
+// Answers 1, 2, 3 or 5, where there is so much room for the output, and so many words are lent for the new-to-old list. Where no answer is left, the counts are those of the result, and the marks of the used rows hold their
 // new numbers.
 fn checked(
     rows: &[u32],
@@ -90,15 +33,7 @@ fn checked(
     edges: &[u32],
     fairness: &[u32],
     counts: Counts,
-    rows2: &[u32],
-    inputs2: &[u32],
-    latches2: &[u32],
-    constraints2: &[u32],
-    bads2: &[u32],
-    outputs2: &[u32],
-    ends2: &[u32],
-    edges2: &[u32],
-    fairness2: &[u32],
+    room: Counts,
     old: usize,
     marks: &mut [u32],
 ) -> Rebuilt
@@ -106,8 +41,7 @@ fn checked(
         foundSeen r (now (marks .exit))
         ≡ refineChecked
         (lent (now (rows .entry)) (now (inputs .entry)) (now (latches .entry)) (now (constraints .entry)) (now (bads .entry)) (now (outputs .entry)) (now (ends .entry)) (now (edges .entry)) (now (fairness .entry)) counts)
-        (lent (now (rows2 .entry)) (now (inputs2 .entry)) (now (latches2 .entry)) (now (constraints2 .entry)) (now (bads2 .entry)) (now (outputs2 .entry)) (now (ends2 .entry)) (now (edges2 .entry)) (now (fairness2 .entry)) counts)
-        old (now (marks .entry))
+        room old (now (marks .entry))
         ⌝ }
 {
     let answer = asked(
@@ -121,15 +55,8 @@ fn checked(
         edges,
         fairness,
         counts,
-        rows2,
-        inputs2,
-        latches2,
-        constraints2,
-        bads2,
-        outputs2,
-        ends2,
-        edges2,
-        fairness2,
+        true,
+        room,
         marks,
     );
     if !edge::is_done(answer) {
@@ -148,20 +75,7 @@ fn checked(
         counts,
         &mut marks[..used],
     );
-    let room = has_room(
-        rows2,
-        inputs2,
-        latches2,
-        constraints2,
-        bads2,
-        outputs2,
-        ends2,
-        edges2,
-        fairness2,
-        need,
-    )
-        & (need.rows <= old);
-    if !room {
+    if !(fits(room, need) & (need.rows <= old)) {
         clear(marks, used);
         return Rebuilt {
             answer: Answer::NoRoom,
@@ -203,7 +117,7 @@ fn write(
         (lent (now rows2) (now inputs2) (now latches2) (now constraints2) (now bads2) (now outputs2) (now ends2) (now edges2) (now fairness2) counts) (now old) (now map)
         ⌝ }
     ensures { λ _. ⌜
-        lent (now (rows2 .exit)) (now (inputs2 .exit)) (now (latches2 .exit)) (now (constraints2 .exit)) (now (bads2 .exit)) (now (outputs2 .exit)) (now (ends2 .exit)) (now (edges2 .exit)) (now (fairness2 .exit)) (countsOf (lent (now (rows .entry)) (now (inputs .entry)) (now (latches .entry)) (now (constraints .entry)) (now (bads .entry)) (now (outputs .entry)) (now (ends .entry)) (now (edges .entry)) (now (fairness .entry)) counts))
+        lent (now (rows2 .exit)) (now (inputs2 .exit)) (now (latches2 .exit)) (now (constraints2 .exit)) (now (bads2 .exit)) (now (outputs2 .exit)) (now (ends2 .exit)) (now (edges2 .exit)) (now (fairness2 .exit)) (refinedCounts (lent (now (rows .entry)) (now (inputs .entry)) (now (latches .entry)) (now (constraints .entry)) (now (bads .entry)) (now (outputs .entry)) (now (ends .entry)) (now (edges .entry)) (now (fairness .entry)) counts))
         ≡ refined
         (lent (now (rows .entry)) (now (inputs .entry)) (now (latches .entry)) (now (constraints .entry)) (now (bads .entry)) (now (outputs .entry)) (now (ends .entry)) (now (edges .entry)) (now (fairness .entry)) counts)
         (lent (now (rows2 .entry)) (now (inputs2 .entry)) (now (latches2 .entry)) (now (constraints2 .entry)) (now (bads2 .entry)) (now (outputs2 .entry)) (now (ends2 .entry)) (now (edges2 .entry)) (now (fairness2 .entry)) counts)
@@ -268,6 +182,17 @@ pub fn coi_refine(
         (now (old .entry)) (now (marks .entry))
         ⌝ }
 {
+    let room = Counts {
+        rows: rows2.len() / 2,
+        inputs: inputs2.len(),
+        latches: latches2.len() / LATCH_WORDS,
+        constraints: constraints2.len(),
+        bads: bads2.len(),
+        outputs: outputs2.len(),
+        sets: ends2.len(),
+        edges: edges2.len(),
+        fairness: fairness2.len(),
+    };
     let n = old.len();
     let found = checked(
         rows,
@@ -280,15 +205,7 @@ pub fn coi_refine(
         edges,
         fairness,
         counts,
-        rows2,
-        inputs2,
-        latches2,
-        constraints2,
-        bads2,
-        outputs2,
-        ends2,
-        edges2,
-        fairness2,
+        room,
         n,
         marks,
     );

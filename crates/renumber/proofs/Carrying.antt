@@ -35,7 +35,8 @@ renamed-value m v w e n h =
     let q : (2 * m (e / 2) + e % 2) % 2 ≡ e % 2 = omega arith in
     rw (renamed-edge m e n, p, q, h)
 
-module _ (m : ℕ → ℕ) (Kept : ℕ → Type 0) (old : List ℕ) (used : ℕ) (new : List ℕ) (used′ : ℕ) (c : Carried m Kept old used new used′) (good : AllRows old used) (limit : used ≤ maxRows) (limit′ : used′ ≤ maxRows) where
+module _ (m : ℕ → ℕ) (Kept : ℕ → Type 0) (old : List ℕ) (used : ℕ) (new : List ℕ) (used′ : ℕ) (c : Carried m Kept old used new used′) (good : AllRows old used) (limit : used ≤ maxRows)
+    (limit′ : used′ ≤ maxRows) where
   -- an edge to a used row is not the none word
   some : (e : ℕ) → idOf e < used → e ≡ none → ⊥
   some e l q = absurd (omega arith)
@@ -50,7 +51,9 @@ module _ (m : ℕ → ℕ) (Kept : ℕ → Type 0) (old : List ℕ) (used : ℕ)
     -- a row, where the kept rows below it agree
     row-step : (i : ℕ) → i < used → Kept i → ((j : ℕ) → j < i → Kept j → value new leaf (m j) ≡ value old leaf′ j) → value new leaf (m i) ≡ value old leaf′ i
     unfolding isRow isFalseRow
-    row-step i l k below = ⊎-elim (λ h. ⊎-elim zero-row leaf-row (either {a = isFalseRow i (word0 old i) (word1 old i)} h)) gate-row (either {a = isFalseRow i (word0 old i) (word1 old i) || isLeaf i (word0 old i) (word1 old i)} (good i l))
+    row-step i l k below =
+        ⊎-elim (λ h. ⊎-elim zero-row leaf-row (either {a = isFalseRow i (word0 old i) (word1 old i)} h)) gate-row
+        (either {a = isFalseRow i (word0 old i) (word1 old i) || isLeaf i (word0 old i) (word1 old i)} (good i l))
       where
         zero-row : isFalseRow i (word0 old i) (word1 old i) ≡ true → value new leaf (m i) ≡ value old leaf′ i
         zero-row h =
@@ -70,12 +73,13 @@ module _ (m : ℕ → ℕ) (Kept : ℕ → Type 0) (old : List ℕ) (used : ℕ)
             let l1 : idOf (word1 old i) < used = omega (arith, t .1) in
             let p = edge-step (word0 old i) l0 (below (idOf (word0 old i)) (t .0) (f .0)) in
             let q = edge-step (word1 old i) l1 (below (idOf (word1 old i)) (t .1) (f .1)) in
-            value-gate new leaf (m i) (g .0)
-            ∙ (⊎-elim
-            (λ (s : (word0 new (m i) ≡ renamed m (word0 old i)) × (word1 new (m i) ≡ renamed m (word1 old i))). ap₂ _&&_ (ap (edgeValue (value new leaf)) (s .0) ∙ p) (ap (edgeValue (value new leaf)) (s .1) ∙ q))
-            (λ (s : (word0 new (m i) ≡ renamed m (word1 old i)) × (word1 new (m i) ≡ renamed m (word0 old i))). and-comm (edgeValue (value new leaf) (word0 new (m i))) (edgeValue (value new leaf) (word1 new (m i))) ∙ ap₂ _&&_ (ap (edgeValue (value new leaf)) (s .1) ∙ p) (ap (edgeValue (value new leaf)) (s .0) ∙ q))
-            (g .1)
-            ∙ sym (value-gate old leaf′ i h))
+            value-gate new leaf (m i) (g .0) ∙
+            (⊎-elim
+            (λ (s : (word0 new (m i) ≡ renamed m (word0 old i)) × (word1 new (m i) ≡ renamed m (word1 old i))). ap₂ _&&_ (ap (edgeValue (value new leaf)) (s .0) ∙ p)
+            (ap (edgeValue (value new leaf)) (s .1) ∙ q))
+            (λ (s : (word0 new (m i) ≡ renamed m (word1 old i)) × (word1 new (m i) ≡ renamed m (word0 old i))). and-comm (edgeValue (value new leaf) (word0 new (m i)))
+            (edgeValue (value new leaf) (word1 new (m i))) ∙ ap₂ _&&_ (ap (edgeValue (value new leaf)) (s .1) ∙ p) (ap (edgeValue (value new leaf)) (s .0) ∙ q)) (g .1) ∙ sym
+            (value-gate old leaf′ i h))
 
     below : (n i : ℕ) → i < n → i < used → Kept i → value new leaf (m i) ≡ value old leaf′ i
     below zero i b l k = absurd (omega arith)

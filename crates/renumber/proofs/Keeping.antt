@@ -12,11 +12,11 @@ use Rattle.rows.specs.Sizes.{maxRows}
 use Rattle.rows.specs.Rows.{none}
 use Rattle.graph.specs.declared.Counts.{Counts}
 use Rattle.graph.specs.Latches.{latchAt}
+use Rattle.graph.proofs.Latches.{latch-kept}
 use Rattle.renumber.specs.Renumber.{renamed, renamedLatch, edgesOf, endsOf, latchesWritten, Lists, renumber}
 use Rattle.renumber.specs.Entries.{SameEntries}
 use Rattle.renumber.specs.Kept.{SameBefore, ListsKept}
-use Rattle.renumber.proofs.Writing.{written-before}
-use Rattle.renumber.proofs.Entering.{latch-kept}
+use Rattle.output.proofs.Writing.{written-before}
 use Rattle.renumber.proofs.Carrying.{renamed-row}
 
 latches-before : (m : ℕ → ℕ) (out : List ℕ) (at : ℕ) (from : List ℕ) (n j : ℕ) → j < at → latchAt (latchesWritten m out at from n) j ≡ latchAt out j

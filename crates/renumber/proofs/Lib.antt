@@ -1,6 +1,5 @@
 pub mod Writing
 pub mod Mapping
-pub mod Fitting
 pub mod Entering
 pub mod Carrying
 pub mod Rowing

@@ -12,12 +12,15 @@ use Rattle.rows.specs.Rows.{none}
 use Rattle.graph.specs.declared.Counts.{Counts}
 use Rattle.graph.specs.declared.latch.Latch.{Latch}
 use Rattle.graph.specs.Latches.{latchAt, latchSet}
-use Rattle.graph.specs.Graph.{Lent, Sized}
+use Rattle.graph.specs.Graph.{Lent, Sized, noCounts}
 use Rattle.graph.specs.WellFormed.{WellFormed}
-use Rattle.renumber.specs.Writing.{written}
-use Rattle.renumber.specs.Renumber.{renamed, renamedLatch, edgesOf, latchesWritten, Lists, listsOf, renumber, by, Known, Mapped, EdgesReady, ListsReady}
-use Rattle.renumber.specs.Map.{Holds, Small, UsedLatch, UsedEdges, ListsUsed, ListsRoom}
-use Rattle.renumber.proofs.Writing.{written-same, all-lists}
+use Rattle.output.specs.Room.{Room}
+use Rattle.output.specs.Writing.{written}
+use Rattle.renumber.specs.Renumber.{renamed, renamedLatch, edgesOf, latchesWritten, Lists, listsOf, renumber, by}
+use Rattle.renumber.specs.Steps.{Known, Mapped, EdgesReady, ListsReady}
+use Rattle.renumber.specs.Steps.{MarksHold, Small, UsedLatch, UsedEdges, ListsUsed, ListsRoom}
+use Rattle.output.proofs.Writing.{written-same}
+use Rattle.renumber.proofs.Writing.{all-lists}
 
 -- ---- a well-formed graph
 module _ (g : Lent) (marks : ℕ) (s : Sized g marks) (w : WellFormed g) where
@@ -44,7 +47,20 @@ module _ (g : Lent) (marks : ℕ) (s : Sized g marks) (w : WellFormed g) where
         few = omega (arith, s .edges .within, s .edges .limited);
       }
 
-module _ (used : ℕ) (m : ℕ → ℕ) (map : List ℕ) (h : Holds used m map) where
+-- ---- an output's lists fit from their first entry on
+pub lists-room : (out : Lent) (n : Counts) → Room out n → ListsRoom (listsOf out) noCounts n
+lists-room out n s =
+    record {
+      latches = omega (arith, s .latches);
+      constraints = omega (arith, s .constraints);
+      bads = omega (arith, s .bads);
+      outputs = omega (arith, s .outputs);
+      ends = omega (arith, s .ends);
+      edges = omega (arith, s .edges);
+      fairness = omega (arith, s .fairness);
+    }
+
+module _ (used : ℕ) (m : ℕ → ℕ) (map : List ℕ) (h : MarksHold used m map) where
   -- ---- what is written
   pub renamed-by : (e : ℕ) → (e ≡ none) ⊎ (idOf e < used) → renamed (by map) e ≡ renamed m e
   unfolding renamed
@@ -58,7 +74,9 @@ module _ (used : ℕ) (m : ℕ → ℕ) (map : List ℕ) (h : Holds used m map) 
   unfolding renamedLatch
   latch-by l u = simp (h (l .input) (u .input), renamed-by (l .next) (inr (u .next)), renamed-by (l .init) (u .init))
 
-  latches-by : (out : List ℕ) (at : ℕ) (latches : List ℕ) (n : ℕ) → ((j : ℕ) → j < n → UsedLatch used (latchAt latches j)) → latchesWritten (by map) out at latches n ≡ latchesWritten m out at latches n
+  latches-by :
+      (out : List ℕ) (at : ℕ) (latches : List ℕ) (n : ℕ) → ((j : ℕ) → j < n → UsedLatch used (latchAt latches j)) → latchesWritten (by map) out at latches n ≡ latchesWritten m out at latches
+      n
   unfolding latchesWritten
   latches-by out at latches zero u = refl
   latches-by out at latches (suc n) u =
@@ -95,7 +113,11 @@ module _ (used : ℕ) (m : ℕ → ℕ) (map : List ℕ) (h : Holds used m map) 
           latches = record {
             room = r .latches;
             has = u .latches-has;
-            mapped = λ j l. let t = u .latches j l in record { input = known (latchAt (from .latches) j .input) (t .input); next = mapped (latchAt (from .latches) j .next) (inr (t .next)); init = mapped (latchAt (from .latches) j .init) (t .init) };
+            mapped = λ j l. let t = u .latches j l in record {
+              input = known (latchAt (from .latches) j .input) (t .input);
+              next = mapped (latchAt (from .latches) j .next) (inr (t .next));
+              init = mapped (latchAt (from .latches) j .init) (t .init);
+            };
           };
           constraints = edges-ready (out .constraints) (at .constraints) (from .constraints) (n .constraints) (u .constraints) (r .constraints);
           bads = edges-ready (out .bads) (at .bads) (from .bads) (n .bads) (u .bads) (r .bads);

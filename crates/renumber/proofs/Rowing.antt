@@ -24,10 +24,8 @@ unfolding isRow isFalseRow
 leaf-or-gate rows i p g =
     ⊎-elim
     (λ h. ⊎-elim
-    (λ z. let t = both {a = eqb i 0} {b = eqb (word0 rows i) falseWord} (both {a = eqb i 0 && eqb (word0 rows i) falseWord} {b = eqb (word1 rows i) 0} z .0) in absurd (omega (arith, eqb-true i 0 (t .0))))
-    (λ l. inl l)
-    (either {a = isFalseRow i (word0 rows i) (word1 rows i)} h))
-    (λ h. inr h)
+    (λ z. let t = both {a = eqb i 0} {b = eqb (word0 rows i) falseWord} (both {a = eqb i 0 && eqb (word0 rows i) falseWord} {b = eqb (word1 rows i) 0} z .0) in absurd
+    (omega (arith, eqb-true i 0 (t .0)))) (λ l. inl l) (either {a = isFalseRow i (word0 rows i) (word1 rows i)} h)) (λ h. inr h)
     (either {a = isFalseRow i (word0 rows i) (word1 rows i) || isLeaf i (word0 rows i) (word1 rows i)} g)
 
 -- the words of a leaf

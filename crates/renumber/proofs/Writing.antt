@@ -1,67 +1,17 @@
--- Laws of writing.
+-- Laws of written latches, and of all lists at once.
 -- Assumes nothing.
-use Prim.Native.Nat.{ℕ, zero, suc, _+_, _≤_, _<_}
-use native.Mathlib.Omega.{arith}
-use native.Mathlib.Nat.{eq-or-lt-of-le}
+use Prim.Native.Nat.{ℕ, zero, suc, _+_}
 use native.Mathlib.Numerals.{add-one}
 use mathlib.Core.Path.{_≡_, refl, sym, ap, _∙_}
-use mathlib.Core.Logic.{⊎-elim}
 use mathlib.Core.List.{List}
-use lib.ListN.{length, getD, set, drop, length-set}
-use lib.Seq.{getD-set-same, getD-set-other, drop-set-lt}
+use lib.ListN.{length}
 use Rattle.graph.specs.declared.latch.Latch.{Latch}
 use Rattle.graph.specs.Latches.{latchAt, latchSet}
-use Rattle.renumber.specs.Writing.{written}
+use Rattle.graph.proofs.Latches.{latch-set-length}
+use Rattle.output.specs.Writing.{written}
 use Rattle.renumber.specs.Renumber.{renamedLatch, latchesWritten, Lists, lists}
 
-pub written-length : (list : List ℕ) (at : ℕ) (f : ℕ → ℕ) (n : ℕ) → length (written list at f n) ≡ length list
-unfolding written
-written-length list at f zero = refl
-written-length list at f (suc n) = length-set (written list at f n) (at + n) (f n) ∙ written-length list at f n
-
--- a turn of a loop that writes
-pub written-turn : (list : List ℕ) (at : ℕ) (f : ℕ → ℕ) (j : ℕ) {now : List ℕ} {v : ℕ} → now ≡ written list at f j → v ≡ f j
-    → set now (at + j) v ≡ written list at f (j + 1)
-unfolding written
-written-turn list at f j e w = rw (add-one, e, w)
-
--- words that agree
-pub written-same : (list : List ℕ) (at : ℕ) (f g : ℕ → ℕ) (n : ℕ) → ((j : ℕ) → j < n → f j ≡ g j) → written list at f n ≡ written list at g n
-unfolding written
-written-same list at f g zero h = refl
-written-same list at f g (suc n) h = rw (written-same list at f g n (λ j l. h j (omega arith)), h n (omega arith))
-
--- ---- what stands there afterwards
-module _ (list : List ℕ) (at : ℕ) (f : ℕ → ℕ) where
-  pub written-before : (n k : ℕ) → k < at → getD (written list at f n) k 0 ≡ getD list k 0
-  unfolding written
-  written-before zero k l = refl
-  written-before (suc n) k l = getD-set-other (written list at f n) (at + n) k (f n) 0 (λ e. absurd (omega arith)) ∙ written-before n k l
-
-  pub written-at : (n j : ℕ) → at + n ≤ length list → j < n → getD (written list at f n) (at + j) 0 ≡ f j
-  unfolding written
-  written-at zero j r l = absurd (omega arith)
-  written-at (suc n) j r l =
-      ⊎-elim
-      (λ e. let q : j ≡ n = omega arith in rw q (getD-set-same (written list at f n) (at + n) (f n) 0 (omega (arith, written-length list at f n))))
-      (λ h. getD-set-other (written list at f n) (at + n) (at + j) (f n) 0 (λ e. absurd (omega arith)) ∙ written-at n j (omega arith) (omega arith))
-      (eq-or-lt-of-le {n = suc j} {m = suc n} (omega arith))
-
-  pub written-after : (n k : ℕ) → at + n ≤ k → getD (written list at f n) k 0 ≡ getD list k 0
-  unfolding written
-  written-after zero k l = refl
-  written-after (suc n) k l = getD-set-other (written list at f n) (at + n) k (f n) 0 (λ e. absurd (omega arith)) ∙ written-after n k (omega arith)
-
-  pub written-drop : (n k : ℕ) → at + n ≤ k → drop k (written list at f n) ≡ drop k list
-  unfolding written
-  written-drop zero k l = refl
-  written-drop (suc n) k l = drop-set-lt k (written list at f n) (at + n) (f n) (omega arith) ∙ written-drop n k (omega arith)
-
 -- ---- latches
-pub latch-set-length : (latches : List ℕ) (i : ℕ) (l : Latch) → length (latchSet latches i l) ≡ length latches
-unfolding latchSet
-latch-set-length latches i l = rw (length-set, length-set, length-set)
-
 pub latches-length : (m : ℕ → ℕ) (out : List ℕ) (at : ℕ) (latches : List ℕ) (n : ℕ) → length (latchesWritten m out at latches n) ≡ length out
 unfolding latchesWritten
 latches-length m out at latches zero = refl
@@ -73,7 +23,9 @@ pub latches-turn : (m : ℕ → ℕ) (out : List ℕ) (at : ℕ) (latches : List
 unfolding latchesWritten
 latches-turn m out at latches j {now} {after} {old} {new} e p q w =
     let s : j + 1 ≡ suc j = add-one j in
-    w ∙ (ap (λ (l : Latch). latchSet now (at + j) l) (q ∙ ap (renamedLatch m) p) ∙ (ap (λ (x : List ℕ). latchSet x (at + j) (renamedLatch m (latchAt latches j))) e ∙ ap (λ (k : ℕ). latchesWritten m out at latches k) (sym s)))
+    w ∙
+    (ap (λ (l : Latch). latchSet now (at + j) l) (q ∙ ap (renamedLatch m) p) ∙
+    (ap (λ (x : List ℕ). latchSet x (at + j) (renamedLatch m (latchAt latches j))) e ∙ ap (λ (k : ℕ). latchesWritten m out at latches k) (sym s)))
 
 -- ---- all lists
 pub all-lists : {a b c d e f g : List ℕ} (l : Lists) → a ≡ l .latches → b ≡ l .constraints → c ≡ l .bads → d ≡ l .outputs → e ≡ l .ends → f ≡ l .edges → g ≡ l .fairness → lists a b c d e f g ≡ l

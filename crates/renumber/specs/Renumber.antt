@@ -1,20 +1,18 @@
 -- A renumbering of rows, `m`, applied to every list of a graph but the inputs: so no call that renumbers can forget a column, as a latch's init, that another has. Rows and inputs,
 -- of which a call may keep some or none, are its own.
 -- Assumes nothing.
-use Prim.Native.Nat.{ℕ, zero, suc, _+_, _*_, _%_, _≤_, _<_}
-use mathlib.Core.Path.{_≡_}
+use Prim.Native.Nat.{ℕ, zero, suc, _+_, _*_, _%_}
 use mathlib.Core.List.{List}
 use mathlib.Core.Bool.{cond}
-use lib.ListN.{length, getD}
+use lib.ListN.{getD}
 use lib.Dec.{eqb}
 use Rattle.edge.specs.Edges.{idOf}
-use Rattle.rows.specs.Sizes.{maxRows}
 use Rattle.rows.specs.Rows.{none}
 use Rattle.graph.specs.declared.Counts.{Counts}
 use Rattle.graph.specs.declared.latch.Latch.{Latch}
-use Rattle.graph.specs.Latches.{latchWords, latchAt, latchSet}
+use Rattle.graph.specs.Latches.{withEdges, latchAt, latchSet}
 use Rattle.graph.specs.Graph.{Lent}
-use Rattle.renumber.specs.Writing.{written, Words}
+use Rattle.output.specs.Writing.{written}
 
 -- ---- one word
 -- an edge: the new number of its row, with its sign; the none word stays
@@ -23,7 +21,7 @@ renamed m e = cond (eqb e none) none (2 * m (idOf e) + e % 2)
 
 -- a latch: input, next AND init
 unfoldable pub renamedLatch : (ℕ → ℕ) → Latch → Latch
-renamedLatch m l = record { input = m (l .input); next = renamed m (l .next); init = renamed m (l .init) }
+renamedLatch m l = withEdges l (m (l .input)) (renamed m (l .next)) (renamed m (l .init))
 
 -- ---- a list: word j of it
 abbrev pub edgesOf : (ℕ → ℕ) → List ℕ → ℕ → ℕ
@@ -78,53 +76,3 @@ graphOf rows inputs l n =
 -- ---- the map as a list of words
 abbrev pub by : List ℕ → ℕ → ℕ
 by map i = getD map i 0
-
--- a row that the map has, and whose new edges are words
-pub record Known (map : List ℕ) (i : ℕ) : Type 0 where
-  pub has : i < length map
-  pub small : by map i ≤ maxRows
-
--- an edge to such a row
-pub record MappedEdge (map : List ℕ) (e : ℕ) : Type 0 where
-  pub edge : e < none
-  pub known : Known map (idOf e)
-
--- an edge to such a row, or none
-abbrev pub Mapped : List ℕ → ℕ → Type 0
-Mapped map e = (e ≡ none → ⊥) → Known map (idOf e)
-
-pub record MappedLatch (map : List ℕ) (l : Latch) : Type 0 where
-  pub input : Known map (l .input)
-  pub next : Mapped map (l .next)
-  pub init : Mapped map (l .init)
-
--- n ids, edges, latches of a list can be mapped, and there is room for them from `at` on
-pub record IdsReady (map out : List ℕ) (at : ℕ) (list : List ℕ) (n : ℕ) : Type 0 where
-  pub room : at + n ≤ length out
-  pub has : n ≤ length list
-  pub known : (j : ℕ) → j < n → Known map (getD list j 0)
-
-pub record EdgesReady (map out : List ℕ) (at : ℕ) (list : List ℕ) (n : ℕ) : Type 0 where
-  pub room : at + n ≤ length out
-  pub has : n ≤ length list
-  pub mapped : (j : ℕ) → j < n → Mapped map (getD list j 0)
-
-pub record LatchesReady (map out : List ℕ) (at : ℕ) (latches : List ℕ) (n : ℕ) : Type 0 where
-  pub room : latchWords * (at + n) ≤ length out
-  pub has : latchWords * n ≤ length latches
-  pub mapped : (j : ℕ) → j < n → MappedLatch map (latchAt latches j)
-
-pub record EndsReady (by : ℕ) (out : List ℕ) (at : ℕ) (ends : List ℕ) (n : ℕ) : Type 0 where
-  pub room : at + n ≤ length out
-  pub has : n ≤ length ends
-  pub words : Words (endsOf by ends) n
-
--- all lists
-pub record ListsReady (map : List ℕ) (out : Lists) (at : Counts) (from : Lists) (n : Counts) : Type 0 where
-  pub latches : LatchesReady map (out .latches) (at .latches) (from .latches) (n .latches)
-  pub constraints : EdgesReady map (out .constraints) (at .constraints) (from .constraints) (n .constraints)
-  pub bads : EdgesReady map (out .bads) (at .bads) (from .bads) (n .bads)
-  pub outputs : EdgesReady map (out .outputs) (at .outputs) (from .outputs) (n .outputs)
-  pub ends : EndsReady (at .edges) (out .ends) (at .sets) (from .ends) (n .sets)
-  pub edges : EdgesReady map (out .edges) (at .edges) (from .edges) (n .edges)
-  pub fairness : EdgesReady map (out .fairness) (at .fairness) (from .fairness) (n .fairness)

@@ -5,7 +5,6 @@ use mathlib.Core.Path.{_≡_, ap}
 use mathlib.Core.List.{List}
 use Rattle.edge.specs.declared.answer.Given.{Given}
 use Rattle.edge.specs.Answers.{told, told-injective, determined}
-use Rattle.graph.specs.declared.Counts.{Counts}
 use Rattle.graph.specs.Graph.{Lent}
 use Rattle.renumber.specs.declared.Rebuilt.{Rebuilt}
 
@@ -27,15 +26,6 @@ pub record ListedSeen : Type 0 where
 
 abbrev pub listedSeen : Rebuilt → Lent → List ℕ → List ℕ → ListedSeen
 listedSeen r graph old marks = record { given = told (r .answer); graph = graph; old = old; marks = marks }
-
--- between the check and the writing: the answer, the counts and the marks
-pub record FoundSeen : Type 0 where
-  pub given : Given
-  pub counts : Counts
-  pub marks : List ℕ
-
-abbrev pub foundSeen : Rebuilt → List ℕ → FoundSeen
-foundSeen r marks = record { given = told (r .answer); counts = r .counts; marks = marks }
 
 -- ---- any two results that a promise allows are equal: here for any call, and beside each definition for its own
 abbrev pub SameRebuilt : Rebuilt → Lent → List ℕ → Rebuilt → Lent → List ℕ → Type 0

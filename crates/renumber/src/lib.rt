@@ -1,14 +1,14 @@
 // Writing the lists of a graph anew, every edge and id by a map from old row numbers to new ones.
-pub mod output;
-
 ghost use mathlib.Core.Path.{_≡_};
 ghost use Prim.Native.Nat.{_+_, _*_, _<_, _^_};
-ghost use Rattle.renumber.specs.Writing.{written};
-ghost use Rattle.renumber.specs.Renumber.{renamed as renamedBy, renamedLatch, edgesOf, idsOf, endsOf, latchesWritten, lists, renumber, by, Mapped, MappedEdge, MappedLatch, IdsReady, EdgesReady, LatchesReady, EndsReady, ListsReady};
+ghost use Rattle.output.specs.Writing.{written};
+ghost use Rattle.renumber.specs.Renumber.{renamed as renamedBy, renamedLatch, edgesOf, idsOf, endsOf, latchesWritten, lists, renumber, by};
+ghost use Rattle.renumber.specs.Steps.{Mapped, MappedEdge, MappedLatch, IdsReady, EdgesReady, LatchesReady, EndsReady, ListsReady};
 use edge::Answer;
 use graph::Counts;
 use graph::latch::Latch;
 use graph::latch::latch_at;
+use graph::latch::with_edges;
 use graph::latch::write_latch;
 use rows::kinds::NONE;
 
@@ -70,11 +70,12 @@ fn renamed_latch(l: Latch, map: &[u32]) -> Latch
     requires { ⌜ MappedLatch (now map) l ⌝ }
     ensures { λ r. ⌜ r ≡ renamedLatch (by (now (map .entry))) l ⌝ }
 {
-    Latch {
-        input: map[l.input as usize],
-        next: renamed(l.next, map),
-        init: renamed(l.init, map),
-    }
+    with_edges(
+        l,
+        map[l.input as usize],
+        renamed(l.next, map),
+        renamed(l.init, map),
+    )
 }
 
 fn write_latches(out: &mut [u32], at: usize, latches: &[u32], n: usize, map: &[u32])

@@ -76,7 +76,9 @@ module _ (rows : List ℕ) (used : ℕ) (leaf : ℕ → Bool) (limit : used ≤ 
     -- a row, where the rows below it agree
     only-step : (i : ℕ) → i < used → ((j : ℕ) → j < i → v j ≡ value rows leaf j) → v i ≡ value rows leaf i
     unfolding isRow isFalseRow edgeValue
-    only-step i l below = ⊎-elim (λ h. ⊎-elim zero-row leaf-row (either {a = isFalseRow i (word0 rows i) (word1 rows i)} h)) gate-row (either {a = isFalseRow i (word0 rows i) (word1 rows i) || isLeaf i (word0 rows i) (word1 rows i)} (good i l))
+    only-step i l below =
+        ⊎-elim (λ h. ⊎-elim zero-row leaf-row (either {a = isFalseRow i (word0 rows i) (word1 rows i)} h)) gate-row
+        (either {a = isFalseRow i (word0 rows i) (word1 rows i) || isLeaf i (word0 rows i) (word1 rows i)} (good i l))
       where
         zero-row : isFalseRow i (word0 rows i) (word1 rows i) ≡ true → v i ≡ value rows leaf i
         zero-row h =

@@ -22,11 +22,12 @@ use Rattle.graph.specs.Check.{CheckSeen, checkSeen, checkCall, contents, cleare
 use Rattle.graph.specs.Exactly.{Answers}
 use Rattle.graph.proofs.WellFormed.{exact}
 use Rattle.graph.proofs.Exactly.{argument-answers, check-answers, names-refused, own-answers}
-use Rattle.ternary.specs.Codes.{edge3, Codes, allCodes}
-use Rattle.ternary.specs.Run.{leaves, codesOf, run, next, nexts, nextRow, Within, Ready}
-use Rattle.ternary.specs.Calls.{Accepted, argumentsRight, answerOf, written, RunSeen, runSeen, runCall, stepSeen, stepCall, ValueSeen, valueGiven, valueCall}
-use Rattle.ternary.proofs.Coding.{codes-all, all-codes}
-use Rattle.ternary.proofs.Running.{rows-long, nexts-front}
+use Rattle.ternary_run.specs.Codes.{edge3, Codes, allCodes}
+use Rattle.ternary_run.specs.Run.{leaves, codesOf, run, next, nexts, nextRow}
+use Rattle.ternary_run.specs.Steps.{Within, RunReady}
+use Rattle.ternary.specs.Calls.{Accepted, argumentsRight, simulateAnswer, written, RunSeen, runSeen, runCall, stepSeen, stepCall, ValueSeen, valueGiven, valueCall}
+use Rattle.ternary_run.proofs.Coding.{codes-all, all-codes}
+use Rattle.ternary_run.proofs.Running.{rows-long, nexts-front}
 
 -- ---- the value of an edge
 abbrev valueRefused : Given → ValueSeen
@@ -151,7 +152,7 @@ accept g input state values marks room z a =
 
 module _ (g : Lent) (input state values marks : List ℕ) where
   abbrev ran : RunSeen
-  ran = record { given = answerOf g input state; values = ifDone (answerOf g input state) (written g input state values) values; marks = cleared (g .counts .rows) marks }
+  ran = record { given = simulateAnswer g input state; values = ifDone (simulateAnswer g input state) (written g input state values) values; marks = cleared (g .counts .rows) marks }
 
   abbrev unsized : RunSeen
   unsized = record { given = badSizes; values = values; marks = marks }
@@ -164,7 +165,7 @@ module _ (g : Lent) (input state values marks : List ℕ) where
   module _ (room : g .counts .rows ≤ length values) (r : Answer) (after : List ℕ) (seen : checkSeen r after ≡ checkCall g marks) where
     -- what the check refuses
     pub run-refused : eqb (told r .number) 0 ≡ false → runSeen r values after ≡ runCall g input state values marks
-    unfolding runCall checkCall answerOf orElse
+    unfolding runCall checkCall simulateAnswer orElse
     run-refused n = rw (le-leb _ _ room) (go (sizesRight g (length marks)) seen)
       where
         go : (t : Bool) → checkSeen r after ≡ cond t (seenRight g marks) (seenWrong g marks) → runSeen r values after ≡ cond t ran unsized
@@ -187,14 +188,14 @@ module _ (g : Lent) (input state values marks : List ℕ) where
 
       -- 4
       pub run-argument : argumentsRight (g .counts .inputs) (g .counts .latches) input state ≡ false → runSeen BadArgument values after ≡ runCall g input state values marks
-      unfolding runCall answerOf orElse
+      unfolding runCall simulateAnswer orElse
       run-argument n =
           let c = checked g marks number-zero in
           rw (le-leb _ _ room, c .sizes, after-cleared, eq-eqb _ _ (c .clean), n)
 
       module _ (a : argumentsRight (g .counts .inputs) (g .counts .latches) input state ≡ true) where
         pub run-done : (values′ : List ℕ) → values′ ≡ written g input state values → runSeen Done values′ after ≡ runCall g input state values marks
-        unfolding runCall answerOf orElse
+        unfolding runCall simulateAnswer orElse
         run-done values′ w =
             let c = checked g marks number-zero in
             rw (w, le-leb _ _ room, c .sizes, after-cleared, eq-eqb _ _ (c .clean), a)
@@ -204,7 +205,7 @@ module _ (g : Lent) (input state values marks : List ℕ) where
 
 -- ---- done exactly where everything is as it must be
 module _ (g : Lent) (input state values marks : List ℕ) where
-  pub ready : Accepted g input state values marks → Ready (g .rows) (g .inputs) (g .latches) (g .counts) input state values
+  pub ready : Accepted g input state values marks → RunReady (g .rows) (g .inputs) (g .latches) (g .counts) input state values
   ready a =
       let s = a .sized in
       record {
@@ -222,7 +223,7 @@ module _ (g : Lent) (input state values marks : List ℕ) where
       }
 
   pub accepts : Accepted g input state values marks → runCall g input state values marks ≡ record { given = done; values = written g input state values; marks = cleared (g .counts .rows) marks }
-  unfolding runCall answerOf orElse
+  unfolding runCall simulateAnswer orElse
   accepts a =
       let z : checkCall g marks .given .number ≡ 0 = ap (λ (x : Given). x .number) (exact g marks .accepts (a .sized) (a .formed)) in
       let c = checked g marks z in
@@ -230,12 +231,19 @@ module _ (g : Lent) (input state values marks : List ℕ) where
       rw (le-leb _ _ (a .room), c .sizes, eq-eqb _ _ (c .clean), r)
 
   pub accepted : runCall g input state values marks .given .number ≡ 0 → Accepted g input state values marks
-  unfolding runCall answerOf orElse
-  accepted = go (leb (g .counts .rows) (length values)) (sizesRight g (length marks)) (eqb (contents g .number) 0) (argumentsRight (g .counts .inputs) (g .counts .latches) input state) refl refl refl refl
+  unfolding runCall simulateAnswer orElse
+  accepted =
+      go (leb (g .counts .rows) (length values)) (sizesRight g (length marks)) (eqb (contents g .number) 0) (argumentsRight (g .counts .inputs) (g .counts .latches) input state) refl refl
+      refl refl
     where
-      go : (s t k h : Bool) → leb (g .counts .rows) (length values) ≡ s → sizesRight g (length marks) ≡ t → eqb (contents g .number) 0 ≡ k → argumentsRight (g .counts .inputs) (g .counts .latches) input state ≡ h
-          → cond (s && t) (record { given = cond k (cond h done badArgument) (contents g); values = ifDone (cond k (cond h done badArgument) (contents g)) (written g input state values) values; marks = cleared (g .counts .rows) marks }) (unsized g input state values marks) .given .number ≡ 0
-          → Accepted g input state values marks
+      go :
+          (s t k h : Bool) → leb (g .counts .rows) (length values) ≡ s → sizesRight g (length marks) ≡ t → eqb (contents g .number) 0 ≡ k → argumentsRight (g .counts .inputs)
+          (g .counts .latches) input state ≡ h → cond (s && t)
+          (record {
+            given = cond k (cond h done badArgument) (contents g);
+            values = ifDone (cond k (cond h done badArgument) (contents g)) (written g input state values) values;
+            marks = cleared (g .counts .rows) marks;
+          }) (unsized g input state values marks) .given .number ≡ 0 → Accepted g input state values marks
       go true true true true p q e a z = accept g input state values marks (leb-true _ _ p) (check-zero g marks q (eqb-true _ _ e)) a
       go true true true false p q e a z = absurd (omega arith)
       go true true false h p q e a z = absurd (eqb-false _ _ e z)
@@ -251,13 +259,16 @@ module _ (g : Lent) (input state values marks : List ℕ) where
   good = argumentsRight (g .counts .inputs) (g .counts .latches) input state
 
   -- the call's sizes are its own and the graph's, one after the other
-  as-checked : (o t : Bool)
-      → cond {A = CheckSeen} (o && t) (record { given = answerOf g input state; marks = cleared (g .counts .rows) marks }) (record { given = badSizes; marks = marks })
-      ≡ cond {A = CheckSeen} o (record {
-        given = orElse (cond {A = CheckSeen} t (record { given = contents g; marks = cleared (g .counts .rows) marks }) (record { given = badSizes; marks = marks }) .given) (cond good done badArgument);
+  as-checked :
+      (o t : Bool) → cond {A = CheckSeen} (o && t) (record { given = simulateAnswer g input state; marks = cleared (g .counts .rows) marks }) (record { given = badSizes; marks = marks }) ≡ cond
+      {A = CheckSeen} o
+      (record {
+        given = orElse (cond {A = CheckSeen} t (record { given = contents g; marks = cleared (g .counts .rows) marks }) (record { given = badSizes; marks = marks }) .given)
+            (cond good done badArgument);
         marks = cond {A = CheckSeen} t (record { given = contents g; marks = cleared (g .counts .rows) marks }) (record { given = badSizes; marks = marks }) .marks;
-      }) (record { given = badSizes; marks = marks })
-  unfolding answerOf
+      })
+      (record { given = badSizes; marks = marks })
+  unfolding simulateAnswer
   as-checked true true = refl
   as-checked true false = ap (λ (t : Given). record { given = t; marks = marks }) (sym (stops-here badSizes (cond good done badArgument) (λ (z : _≡_ {A = ℕ} 1 0). omega arith)))
   as-checked false t = refl
@@ -270,17 +281,18 @@ module _ (g : Lent) (input state values marks : List ℕ) where
       run : Bool → RunSeen
       run t =
           cond t
-          (record { given = answerOf g input state; values = ifDone (answerOf g input state) (written g input state values) values; marks = cleared (g .counts .rows) marks })
+          (record { given = simulateAnswer g input state; values = ifDone (simulateAnswer g input state) (written g input state values) values; marks = cleared (g .counts .rows) marks })
           (record { given = badSizes; values = values; marks = marks })
 
       go : (t : Bool) → record { given = run t .given; marks = run t .marks }
-          ≡ cond {A = CheckSeen} t (record { given = answerOf g input state; marks = cleared (g .counts .rows) marks }) (record { given = badSizes; marks = marks })
+          ≡ cond {A = CheckSeen} t (record { given = simulateAnswer g input state; marks = cleared (g .counts .rows) marks }) (record { given = badSizes; marks = marks })
       go true = refl
       go false = refl
 
   pub answers : Answers own good true g marks (runCall g input state values marks .given) (runCall g input state values marks .marks)
   answers =
-      let a = own-answers own g marks (record { given = orElse (checkCall g marks .given) (cond good done badArgument); marks = checkCall g marks .marks }) (argument-answers (names-refused g) good (check-answers g marks)) in
+      let a = own-answers own g marks (record { given = orElse (checkCall g marks .given) (cond good done badArgument); marks = checkCall g marks .marks })
+      (argument-answers (names-refused g) good (check-answers g marks)) in
       subst (λ (s : CheckSeen). Answers own good true g marks (s .given) (s .marks)) (sym run-seen) a
 
 -- ---- the step

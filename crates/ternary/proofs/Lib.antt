@@ -1,7 +1,3 @@
-pub mod Table
-pub mod Coding
-pub mod Running
 pub mod Answering
-pub mod Ruling
+pub mod Rules
 pub mod Meaning
-pub mod Stepping

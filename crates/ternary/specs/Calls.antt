@@ -16,8 +16,8 @@ use Rattle.graph.specs.Graph.{Lent, sizesRight, Sized}
 use Rattle.graph.specs.Check.{contents, cleared}
 use Rattle.graph.specs.WellFormed.{WellFormed}
 use Rattle.ternary.specs.declared.ValueAnswer.{ValueAnswer}
-use Rattle.ternary.specs.Codes.{edge3, Codes, allCodes}
-use Rattle.ternary.specs.Run.{run, next}
+use Rattle.ternary_run.specs.Codes.{edge3, Codes, allCodes}
+use Rattle.ternary_run.specs.Run.{run, next}
 
 -- ---- the run and the step
 -- no answer 1: the graph's sizes are right, and neither marks nor value buffers are "shorter than the used rows"
@@ -29,8 +29,8 @@ unfoldable pub argumentsRight : ℕ → ℕ → List ℕ → List ℕ → Bool
 argumentsRight inputs latches input state = eqb (length input) inputs && eqb (length state) latches && allCodes input && allCodes state
 
 -- 2 and 3, then 4
-unfoldable pub answerOf : Lent → List ℕ → List ℕ → Given
-answerOf g input state = orElse (contents g) (cond (argumentsRight (g .counts .inputs) (g .counts .latches) input state) done badArgument)
+unfoldable pub simulateAnswer : Lent → List ℕ → List ℕ → Given
+simulateAnswer g input state = orElse (contents g) (cond (argumentsRight (g .counts .inputs) (g .counts .latches) input state) done badArgument)
 
 -- every used row's code; "words beyond what a call says it writes stay as they were"
 abbrev pub written : Lent → List ℕ → List ℕ → List ℕ → List ℕ
@@ -47,7 +47,7 @@ runSeen r values marks = record { given = told r; values = values; marks = marks
 unfoldable pub runCall : Lent → List ℕ → List ℕ → List ℕ → List ℕ → RunSeen
 runCall g input state values marks =
     cond (sizesFit g values marks)
-    (record { given = answerOf g input state; values = ifDone (answerOf g input state) (written g input state values) values; marks = cleared (g .counts .rows) marks })
+    (record { given = simulateAnswer g input state; values = ifDone (simulateAnswer g input state) (written g input state values) values; marks = cleared (g .counts .rows) marks })
     (record { given = badSizes; values = values; marks = marks })
 
 -- when the run and the step are done

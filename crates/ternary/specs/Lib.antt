@@ -1,4 +1,3 @@
-pub mod Codes
-pub mod Run
 pub mod Calls
+pub mod Rules
 pub mod Meaning

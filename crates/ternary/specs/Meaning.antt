@@ -15,8 +15,9 @@ use Rattle.graph.specs.Latches.{latchAt}
 use Rattle.graph.specs.Graph.{Lent, lent}
 use Rattle.graph.specs.Check.{cleared}
 use Rattle.graph.specs.Exactly.{Answers}
-use Rattle.ternary.specs.Codes.{unknown, and3, edge3, Codes}
-use Rattle.ternary.specs.Run.{inputRow, latchRow, nextRow, run, next, stateAt, frame}
+use Rattle.ternary_run.specs.Codes.{unknown, Codes}
+use Rattle.ternary_run.specs.Run.{inputRow, latchRow, nextRow, run, next, stateAt, frame}
+use Rattle.ternary.specs.Rules.{Listed}
 use Rattle.ternary.specs.Calls.{argumentsRight, written, runCall, Accepted, stepCall, stepCalls}
 
 -- ---- when it is done, and what then
@@ -27,25 +28,6 @@ pub record RunRight (g : Lent) (input state values marks : List ℕ) : Type 0 wh
   -- each answer exactly in its case, and the marks; of the step too
   pub answers : Answers (leb (g .counts .rows) (length values)) (argumentsRight (g .counts .inputs) (g .counts .latches) input state) true g marks (runCall g input state values marks .given) (runCall g input state values marks .marks)
   pub step-answers : Answers (leb (g .counts .rows) (length values)) (argumentsRight (g .counts .inputs) (g .counts .latches) input state) true g marks (stepCall g input state values marks .given) (stepCall g input state values marks .marks)
-
--- ---- the rules
--- inputs or latches list row x; "a leaf in neither list is an orphan"
-pub data Listed (g : Lent) (x : ℕ) : Type 0 where
-  as-input : (i : ℕ) → i < g .counts .inputs → inputRow (g .inputs) i ≡ x → Listed g x
-  as-latch : (i : ℕ) → i < g .counts .latches → latchRow (g .latches) i ≡ x → Listed g x
-
-pub record Rules (g : Lent) (input state codes : List ℕ) : Type 0 where
-  pub long : length codes ≡ g .counts .rows
-  pub constant : getD codes 0 0 ≡ 0
-  pub inputs : (i : ℕ) → i < g .counts .inputs → getD codes (inputRow (g .inputs) i) 0 ≡ getD input i 0
-  pub latches : (i : ℕ) → i < g .counts .latches → getD codes (latchRow (g .latches) i) 0 ≡ getD state i 0
-  pub orphans : (x : ℕ) → x < g .counts .rows → leafAt (g .rows) x ≡ true → (Listed g x → ⊥) → getD codes x 0 ≡ unknown
-  pub gates : (i : ℕ) → i < g .counts .rows → gateAt (g .rows) i ≡ true → getD codes i 0 ≡ and3 (edge3 codes (word0 (g .rows) i)) (edge3 codes (word1 (g .rows) i))
-
--- the run obeys the rules, and nothing else does
-pub record Obeys (g : Lent) (input state : List ℕ) : Type 0 where
-  pub obeys : Rules g input state (run g input state)
-  pub only : (codes : List ℕ) → Rules g input state codes → codes ≡ run g input state
 
 -- ---- the circuit
 abbrev pub codeOf : Bool → ℕ

@@ -1,18 +1,15 @@
 // Three-valued simulation of a graph: the codes of all rows, the step, and the value of an edge.
-mod codes;
-mod run;
-
 ghost use mathlib.Core.Path.{_≡_};
 ghost use Rattle.graph.specs.Graph.{lent};
 ghost use Rattle.ternary.specs.Calls.{argumentsRight, runSeen, runCall, stepSeen, stepCall, valueSeen, valueCall};
-use codes::UNKNOWN;
-use codes::all_codes;
-use codes::edge_code;
 use edge::Answer;
 use graph::Counts;
 use graph::lists::is_used;
-use run::advance;
-use run::write_values;
+use ternary_run::codes::UNKNOWN;
+use ternary_run::codes::all_codes;
+use ternary_run::codes::edge_code;
+use ternary_run::run::advance;
+use ternary_run::run::write_values;
 
 // One byte an input and one a latch, each a code?
 fn arguments(inputs: usize, latches: usize, input: &[u8], state: &[u8]) -> bool

@@ -20,8 +20,8 @@ use Rattle.graph.specs.Graph.{Lent, Sized}
 use Rattle.graph.specs.Check.{cleared, CheckSeen, checkSeen}
 use Rattle.graph.specs.WellFormed.{WellFormed}
 use Rattle.rows.specs.Rows.{larger}
-use Rattle.graph.specs.Pair.{checkTwoCall, SizedTwo}
-use Rattle.graph.proofs.Pairing.{cleared-fewer, larger-second, exact-two}
+use Rattle.two_graphs.specs.Pair.{checkTwoCall, SizedTwo}
+use Rattle.two_graphs.proofs.Pair.{cleared-fewer, larger-second, exact-two}
 use Rattle.renumber.specs.declared.Rebuilt.{Rebuilt}
 use Rattle.frame.specs.Frame.{framed, frameFits}
 use Rattle.frame.specs.Call.{FrameReady, FrameSeen, frameSeen, frameCall}
@@ -32,13 +32,30 @@ use Rattle.unroll.proofs.Starting.{start-same}
 -- the same graph with marks for itself alone
 pub alone : (g : Lent) (m n : ℕ) → Sized g m → g .counts .rows ≤ n → Sized g n
 alone g m n s h =
-    record { rows = s .rows; marked = h; inputs = s .inputs; latches = s .latches; constraints = s .constraints; bads = s .bads; outputs = s .outputs; ends = s .ends; edges = s .edges; fairness = s .fairness }
+    record {
+      rows = s .rows;
+      marked = h;
+      inputs = s .inputs;
+      latches = s .latches;
+      constraints = s .constraints;
+      bads = s .bads;
+      outputs = s .outputs;
+      ends = s .ends;
+      edges = s .edges;
+      fairness = s .fairness;
+    }
 
 -- the sizes of two graphs, as a loop over both wants them
-pub two-long : (a b : Lent) (marks : ℕ) → SizedTwo a b marks
-    → (2 * a .counts .rows ≤ length (a .rows)) × (2 * b .counts .rows ≤ length (b .rows)) × (b .counts .rows ≤ maxRows) × (latchWords * a .counts .latches ≤ length (a .latches)) × (latchWords * b .counts .latches ≤ length (b .latches))
-two-long a b marks s =
-    (omega (arith, s .first .rows .fit .within), omega (arith, s .second .rows .fit .within), omega (arith, s .second .rows .fit .within, s .second .rows .fit .limited), omega (arith, s .first .latches .within), omega (arith, s .second .latches .within))
+pub two-long :
+    (a b : Lent) (marks : ℕ) → SizedTwo a b marks → (2 * a .counts .rows ≤ length (a .rows)) × (2 * b .counts .rows ≤ length (b .rows)) × (b .counts .rows ≤ maxRows) ×
+    (latchWords * a .counts .latches ≤ length (a .latches)) × (latchWords * b .counts .latches ≤ length (b .latches))
+two-long a b marks s = (
+  omega (arith, s .first .rows .fit .within),
+  omega (arith, s .second .rows .fit .within),
+  omega (arith, s .second .rows .fit .within, s .second .rows .fit .limited),
+  omega (arith, s .first .latches .within),
+  omega (arith, s .second .latches .within),
+)
 
 abbrev rebuiltSeen-of : Given → Lent → List ℕ → RebuiltSeen
 rebuiltSeen-of given graph marks = record { given = given; graph = graph; marks = marks }
@@ -53,7 +70,13 @@ module _ (a b : Lent) (marks : List ℕ) where
   checked-ready z =
       let t = none-of-two (checkTwoCall a b marks .given) same z in
       let s = exact-two a b marks .accepted (t .0) in
-      record { target = alone a (length marks) (a .counts .rows) (s .0 .first) (omega arith); from = s .0 .second; target-formed = s .1; from-formed = s .2; start = start-same a b (has (sameStart a b) refl (t .1)) }
+      record {
+        target = alone a (length marks) (a .counts .rows) (s .0 .first) (omega arith);
+        from = s .0 .second;
+        target-formed = s .1;
+        from-formed = s .2;
+        start = start-same a b (has (sameStart a b) refl (t .1));
+      }
     where
       has : (d : Bool) → sameStart a b ≡ d → cond d done badArgument .number ≡ 0 → sameStart a b ≡ true
       has true e z = e

@@ -16,15 +16,18 @@ use Rattle.graph.specs.Graph.{Lent}
 use Rattle.graph.specs.Stages.{Names}
 use Rattle.graph.specs.Check.{stages}
 use Rattle.graph.specs.WellFormed.{WellFormed}
-use Rattle.graph.specs.Pair.{SizedTwo, checkTwoCall}
-use Rattle.graph.specs.Exactly.{Exactly, all-right, wrong-sizes, faulty, wrong-argument, full, FaultOfTwo, AnswersTwo}
+use Rattle.two_graphs.specs.Pair.{SizedTwo, checkTwoCall}
+use Rattle.graph.specs.Exactly.{Exactly, all-right, wrong-sizes, faulty, wrong-argument, full}
+use Rattle.two_graphs.specs.Exactly.{FaultOfTwo, AnswersTwo}
 use Rattle.graph.proofs.WellFormed.{row-or-entry}
-use Rattle.graph.proofs.Pairing.{exact-two}
-use Rattle.graph.proofs.Exactly.{argument-answers, room-answers, two-refused, check-two-answers}
-use Rattle.renumber.specs.Room.{Room}
-use Rattle.renumber.proofs.Fitting.{roomy, room-true}
+use Rattle.two_graphs.proofs.Pair.{exact-two}
+use Rattle.graph.proofs.Exactly.{argument-answers, room-answers}
+use Rattle.two_graphs.proofs.Exactly.{two-refused, check-two-answers}
+use Rattle.output.specs.Room.{Room}
+use Rattle.output.proofs.Fitting.{roomy, room-true}
 use Rattle.frame.specs.Frame.{framed, frameFits}
-use Rattle.frame.specs.Call.{SameStart, FrameRoom}
+use Rattle.frame.specs.Call.{SameStart}
+use Rattle.frame.specs.Steps.{FrameRoom}
 use Rattle.frame.proofs.Forming.{frame-ready-again}
 use Rattle.frame.proofs.Meaning.{frame-added}
 use Rattle.unroll.specs.Unroll.{sameStart, unrollChecked, unrollAnswer, unrollCall}

@@ -15,9 +15,9 @@ use Rattle.graph.specs.declared.search.Found.the-variants.{At, Nothing}
 use Rattle.graph.specs.Search.{firstBad, nothingFound}
 use Rattle.graph.specs.Latches.{latchAt, latchInputs}
 use Rattle.graph.specs.Graph.{Lent}
+use Rattle.graph.proofs.Latches.{same-inputs}
 use Rattle.graph.proofs.Searching.{stops, goes-on, ended, all-good, nothing-bad}
 use Rattle.frame.specs.Call.{SameStart}
-use Rattle.frame.proofs.Mapping.{same-inputs}
 use Rattle.frame.proofs.Ready.{as-many, same-input}
 use Rattle.unroll.specs.Unroll.{sameWord, sameLatch, startIs, sameStart}
 
@@ -64,8 +64,8 @@ module _ (a b : Lent) where
       record {
         more = leb-true (b .counts .rows) (a .counts .rows) (u .0);
         rows = λ k l. eqb-true (getD (a .rows) k 0) (getD (b .rows) k 0) (all-are (sameWord (a .rows) (b .rows)) (2 * b .counts .rows) (v .0) k l);
-        latches = ap (latchInputs (a .latches)) (eqb-true (a .counts .latches) (b .counts .latches) (u .1))
-            ∙ same-inputs (a .latches) (b .latches) (b .counts .latches) (λ j l. eqb-true (latchAt (a .latches) j .input) (latchAt (b .latches) j .input) (all-are (sameLatch (a .latches) (b .latches)) (b .counts .latches) (v .1) j l));
+        latches = ap (latchInputs (a .latches)) (eqb-true (a .counts .latches) (b .counts .latches) (u .1)) ∙ same-inputs (a .latches) (b .latches) (b .counts .latches)
+            (λ j l. eqb-true (latchAt (a .latches) j .input) (latchAt (b .latches) j .input) (all-are (sameLatch (a .latches) (b .latches)) (b .counts .latches) (v .1) j l));
       }
 
   pub same-start : SameStart a b → sameStart a b ≡ true

@@ -7,9 +7,9 @@ use lib.ListN.{length}
 use Rattle.edge.specs.Answers.{badArgument, noRoom}
 use Rattle.graph.specs.Graph.{Lent}
 use Rattle.graph.specs.WellFormed.{WellFormed}
-use Rattle.graph.specs.Pair.{SizedTwo}
-use Rattle.graph.specs.Exactly.{AnswersTwo}
-use Rattle.renumber.specs.Room.{Room}
+use Rattle.two_graphs.specs.Pair.{SizedTwo}
+use Rattle.two_graphs.specs.Exactly.{AnswersTwo}
+use Rattle.output.specs.Room.{Room}
 use Rattle.frame.specs.Frame.{framed, frameFits}
 use Rattle.frame.specs.Call.{SameStart, FrameReady}
 use Rattle.frame.specs.Meaning.{FrameAdded}

@@ -14,7 +14,7 @@ use Rattle.graph.specs.Search.{firstBad, nothingFound}
 use Rattle.graph.specs.Latches.{latchAt}
 use Rattle.graph.specs.Graph.{Lent}
 use Rattle.graph.specs.Check.{CheckSeen}
-use Rattle.graph.specs.Pair.{checkTwoCall}
+use Rattle.two_graphs.specs.Pair.{checkTwoCall}
 use Rattle.renumber.specs.declared.Rebuilt.{Rebuilt}
 use Rattle.renumber.specs.Seen.{RebuiltSeen, rebuiltSeen, SameRebuilt, rebuilt-determined}
 use Rattle.frame.specs.Frame.{framed, frameFits}

@@ -92,7 +92,7 @@ fn checked(
         (now (marks .entry))
         ⌝ }
 {
-    let answer = graph::check_two(
+    let answer = two_graphs::check_two(
         rows,
         inputs,
         latches,

@@ -19,13 +19,14 @@ use Rattle.graph.specs.Graph.{Lent, lent, noCounts}
 use Rattle.graph.specs.Check.{cleared, CheckSeen, checkSeen}
 use Rattle.graph.proofs.Marked.{cleared-again}
 use Rattle.renumber.specs.declared.Rebuilt.{Rebuilt}
-use Rattle.renumber.specs.Room.{hasRoom}
-use Rattle.renumber.proofs.Fitting.{limited, roomy}
-use Rattle.copy.proofs.Asking.{asked-accepted, asked-done, asked-cleared}
+use Rattle.output.specs.Room.{roomIn, fitsIn, hasRoom}
+use Rattle.output.proofs.Fitting.{limited, roomy}
+use Rattle.output.proofs.Asking.{asked-accepted, asked-done, asked-cleared}
 use Rattle.unroll_to.specs.Frames.{Frames, frames, unrolled}
-use Rattle.unroll_to.specs.Ready.{Ready}
-use Rattle.renumber.specs.Seen.{FoundSeen, foundSeen}
-use Rattle.unroll_to.specs.Call.{maxFrames, unrollAsked, Ran, ran, framesAnswer, unrollRan, unrollToCall, unrollChecked}
+use Rattle.unroll_to.specs.Steps.{UnrollReady}
+use Rattle.renumber.specs.Steps.{FoundSeen, foundSeen}
+use Rattle.unroll_to.specs.Call.{maxFrames, unrollAsked, Ran, ran, framesAnswer, unrollRan, unrollToCall}
+use Rattle.unroll_to.specs.Steps.{unrollChecked}
 
 -- ---- the frames' own answer
 pub frames-missed : (finished n : ℕ) → finished < n → told NoRoom ≡ framesAnswer finished n
@@ -37,48 +38,48 @@ unfolding framesAnswer
 frames-done finished n l = rw (le-ltb finished n l)
 
 -- ---- the check: a is the answer up to 4, `after` are the marks, and d says whether it is done
-module _ (g out : Lent) (n : ℕ) (marks : List ℕ) (a : Answer) {after : List ℕ} (seen : checkSeen a after ≡ unrollAsked g out n marks) {d : Bool} (test : d ≡ eqb (told a .number) 0) where
-  given : told a ≡ unrollAsked g out n marks .given
+module _ (g : Lent) (room : Counts) (n : ℕ) (marks : List ℕ) (a : Answer) {after : List ℕ} (seen : checkSeen a after ≡ unrollAsked g room n marks) {d : Bool} (test : d ≡ eqb (told a .number) 0) where
+  given : told a ≡ unrollAsked g room n marks .given
   given = ap (λ (s : CheckSeen). s .given) seen
 
-  kept : after ≡ unrollAsked g out n marks .marks
+  kept : after ≡ unrollAsked g room n marks .marks
   kept = ap (λ (s : CheckSeen). s .marks) seen
 
-  pub checked-refused : not d ≡ true → record { given = told a; counts = g .counts; marks = after } ≡ unrollChecked g out n marks
+  pub checked-refused : not d ≡ true → record { given = told a; counts = g .counts; marks = after } ≡ unrollChecked g room n marks
   unfolding unrollChecked
   checked-refused h =
       let f = test-refused given test h in
-      rw (stops-here (unrollAsked g out n marks .given) (cond (hasRoom out (g .counts)) done noRoom) (eqb-false _ _ f), f, given, kept)
+      rw (stops-here (unrollAsked g room n marks .given) (cond (fitsIn room (g .counts)) done noRoom) (eqb-false _ _ f), f, given, kept)
 
   module _ (h : not d ≡ false) where
-    test-is : eqb (unrollAsked g out n marks .given .number) 0 ≡ true
+    test-is : eqb (unrollAsked g room n marks .given .number) 0 ≡ true
     test-is = test-done given test h
 
-    number : unrollAsked g out n marks .given .number ≡ 0
+    number : unrollAsked g room n marks .given .number ≡ 0
     number = eqb-true _ _ test-is
 
-    past : orElse (unrollAsked g out n marks .given) (cond (hasRoom out (g .counts)) done noRoom) ≡ cond (hasRoom out (g .counts)) done noRoom
-    past = goes-past (unrollAsked g out n marks .given) (cond (hasRoom out (g .counts)) done noRoom) number
+    past : orElse (unrollAsked g room n marks .given) (cond (fitsIn room (g .counts)) done noRoom) ≡ cond (fitsIn room (g .counts)) done noRoom
+    past = goes-past (unrollAsked g room n marks .given) (cond (fitsIn room (g .counts)) done noRoom) number
 
-    -- `room` says whether the copy fits
-    module _ {room : Bool} (e : room ≡ hasRoom out (g .counts)) where
-      pub no-room : not room ≡ true → {none : Counts} → none ≡ noCounts → record { given = told NoRoom; counts = none; marks = after } ≡ unrollChecked g out n marks
+    -- `fits` says whether the copy fits
+    module _ {fits : Bool} (e : fits ≡ fitsIn room (g .counts)) where
+      pub no-room : not fits ≡ true → {none : Counts} → none ≡ noCounts → record { given = told NoRoom; counts = none; marks = after } ≡ unrollChecked g room n marks
       unfolding unrollChecked
-      no-room f z = rw (past, test-is, sym e ∙ not-true room f, kept, z)
+      no-room f z = rw (past, test-is, sym e ∙ not-true fits f, kept, z)
 
-      pub all-found : not room ≡ false → record { given = told a; counts = g .counts; marks = after } ≡ unrollChecked g out n marks
+      pub all-found : not fits ≡ false → record { given = told a; counts = g .counts; marks = after } ≡ unrollChecked g room n marks
       unfolding unrollChecked
-      all-found f = rw (past, test-is, sym e ∙ not-false room f, given, asked-done (leb n maxFrames) g out marks number, kept)
+      all-found f = rw (past, test-is, sym e ∙ not-false fits f, given, asked-done (leb n maxFrames) g room marks number, kept)
 
 -- the words of a, with other counts
 abbrev with : Lent → Counts → Lent
 with a n = lent (a .rows) (a .inputs) (a .latches) (a .constraints) (a .bads) (a .outputs) (a .ends) (a .edges) (a .fairness) n
 
 -- ---- the call: r is what the check found, `after` are the marks, and d says whether the answer is done
-module _ (g out : Lent) (same : out .counts ≡ g .counts) (n : ℕ) (marks : List ℕ) (r : Rebuilt) {after : List ℕ} (seen : foundSeen r after ≡ unrollChecked g out n marks) {d : Bool}
+module _ (g out : Lent) (same : out .counts ≡ g .counts) (n : ℕ) (marks : List ℕ) (r : Rebuilt) {after : List ℕ} (seen : foundSeen r after ≡ unrollChecked g (roomIn out) n marks) {d : Bool}
     (test : d ≡ eqb (told (r .answer) .number) 0) where
   abbrev asked : Given
-  asked = unrollAsked g out n marks .given
+  asked = unrollAsked g (roomIn out) n marks .given
 
   answer-is : told (r .answer) ≡ orElse asked (cond (hasRoom out (g .counts)) done noRoom)
   unfolding unrollChecked
@@ -88,7 +89,7 @@ module _ (g out : Lent) (same : out .counts ≡ g .counts) (n : ℕ) (marks : Li
   unfolding unrollChecked
   counts-are = ap (λ (s : FoundSeen). s .counts) seen
 
-  marks-are : after ≡ unrollAsked g out n marks .marks
+  marks-are : after ≡ unrollAsked g (roomIn out) n marks .marks
   unfolding unrollChecked
   marks-are = ap (λ (s : FoundSeen). s .marks) seen
 
@@ -129,16 +130,27 @@ module _ (g out : Lent) (same : out .counts ≡ g .counts) (n : ℕ) (marks : Li
         go false z = absurd (omega arith)
 
     marks-cleared : after ≡ cleared (g .counts .rows) marks
-    marks-cleared = marks-are ∙ asked-cleared (leb n maxFrames) g out marks (λ (o : asked .number ≡ 1). absurd (omega (arith, two .0)))
+    marks-cleared = marks-are ∙ asked-cleared (leb n maxFrames) g (roomIn out) marks (λ (o : asked .number ≡ 1). absurd (omega (arith, two .0)))
 
-    pub ready-to-write : Ready g out after
+    pub ready-to-write : UnrollReady g out after
     ready-to-write =
-        let a = asked-accepted (leb n maxFrames) g out marks (two .0) in
+        let a = asked-accepted (leb n maxFrames) g (roomIn out) marks (two .0) in
         let l : length (cleared (g .counts .rows) marks) ≡ length marks = simp (length-append, length-replicate {A = ℕ} (g .counts .rows) 0, length-drop) (omega (arith, a .sized .marked)) in
         let s = a .sized in
         record {
           limited = limited out (a .roomy);
-          sized = record { rows = s .rows; marked = rw marks-cleared (rw l (s .marked)); inputs = s .inputs; latches = s .latches; constraints = s .constraints; bads = s .bads; outputs = s .outputs; ends = s .ends; edges = s .edges; fairness = s .fairness };
+          sized = record {
+            rows = s .rows;
+            marked = rw marks-cleared (rw l (s .marked));
+            inputs = s .inputs;
+            latches = s .latches;
+            constraints = s .constraints;
+            bads = s .bads;
+            outputs = s .outputs;
+            ends = s .ends;
+            edges = s .edges;
+            fairness = s .fairness;
+          };
           well-formed = a .well-formed;
           room = roomy out (g .counts) fits;
           zeros = rw marks-cleared (cleared-again (g .counts .rows) marks (cleared (g .counts .rows) marks) refl);

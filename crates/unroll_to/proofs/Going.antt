@@ -11,12 +11,12 @@ use borrow.Author.Tests.{not-true, not-false}
 use Rattle.graph.specs.declared.Counts.{Counts}
 use Rattle.graph.specs.Graph.{Lent, lent}
 use Rattle.graph.specs.Check.{cleared}
-use Rattle.renumber.proofs.Fitting.{roomy}
+use Rattle.output.proofs.Fitting.{roomy}
 use Rattle.frame.specs.Frame.{framed, frameFits}
 use Rattle.frame.specs.Call.{FrameReady, FrameSeen, frameSeen, frameCall}
 use Rattle.frame.proofs.Forming.{frame-ready-again}
 use Rattle.unroll_to.specs.Frames.{frames, framesOn}
-use Rattle.unroll_to.specs.Ready.{FramesReady}
+use Rattle.unroll_to.specs.Steps.{FramesReady}
 
 -- where a frame fits, another can be added behind it
 pub ready-again : (a b : Lent) (marks : ℕ) → FrameReady a b marks → frameFits a b ≡ true → FrameReady (framed a b) b marks

@@ -1,4 +1,4 @@
 pub mod Going
 pub mod Call
 pub mod Starting
-pub mod Right
+pub mod Meaning

@@ -7,14 +7,15 @@ use mathlib.Core.List.{List}
 use lib.ListN.{length}
 use Rattle.graph.specs.Graph.{Lent, Sized}
 use Rattle.graph.specs.WellFormed.{WellFormed}
-use Rattle.renumber.specs.Room.{Limited, Room}
-use Rattle.copy.specs.Copying.{copyOf, CopyFits}
-use Rattle.copy.specs.Meaning.{IsCopy}
-use Rattle.copy.proofs.Copying.{is-copy}
-use Rattle.copy.proofs.Forming.{latch-inputs-same, copy-formed, copy-sized}
+use Rattle.output.specs.Room.{Limited, Room}
+use Rattle.output.specs.Copying.{copyOf}
+use Rattle.output.specs.Steps.{CopyFits}
+use Rattle.output.specs.Meaning.{IsCopy}
+use Rattle.output.proofs.Copying.{is-copy}
+use Rattle.output.proofs.Forming.{latch-inputs-same, copy-formed, copy-sized}
 use Rattle.frame.specs.Call.{SameStart, FrameReady}
 use Rattle.unroll_to.specs.Frames.{Frames, frames, framesOn, unrolled}
-use Rattle.unroll_to.specs.Ready.{FramesReady, Ready}
+use Rattle.unroll_to.specs.Steps.{FramesReady, UnrollReady}
 
 module _ (g out : Lent) (marks : ℕ) (s : Sized g marks) (w : WellFormed g) (room : Room out (g .counts)) (o : Limited out) where
   is-a-copy : IsCopy (g .counts) g out (copyOf (g .counts) g out)
@@ -40,12 +41,22 @@ module _ (g out : Lent) (marks : ℕ) (s : Sized g marks) (w : WellFormed g) (ro
         start = same-start;
       }
 
-module _ (g out : Lent) (marks : List ℕ) (r : Ready g out marks) where
+module _ (g out : Lent) (marks : List ℕ) (r : UnrollReady g out marks) where
   pub copy-fits : CopyFits g out (g .counts)
   copy-fits =
       let s = r .sized in
       record {
-        has = record { rows = s .rows .fit .within; inputs = s .inputs .within; latches = s .latches .within; constraints = s .constraints .within; bads = s .bads .within; outputs = s .outputs .within; ends = s .ends .within; edges = s .edges .within; fairness = s .fairness .within };
+        has = record {
+          rows = s .rows .fit .within;
+          inputs = s .inputs .within;
+          latches = s .latches .within;
+          constraints = s .constraints .within;
+          bads = s .bads .within;
+          outputs = s .outputs .within;
+          ends = s .ends .within;
+          edges = s .edges .within;
+          fairness = s .fairness .within;
+        };
         room = r .room;
       }
 

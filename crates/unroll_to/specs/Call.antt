@@ -6,13 +6,13 @@ use mathlib.Core.List.{List}
 use mathlib.Core.Bool.{cond}
 use lib.Dec.{ltb, leb}
 use Rattle.edge.specs.declared.answer.Given.{Given}
-use Rattle.edge.specs.Answers.{done, noRoom, told, told-injective, orElse, determined}
+use Rattle.edge.specs.Answers.{done, noRoom, told, told-injective, determined}
 use Rattle.rows.specs.Reading.{ifDone}
+use Rattle.graph.specs.declared.Counts.{Counts}
 use Rattle.graph.specs.Graph.{Lent, lent, noCounts}
 use Rattle.graph.specs.Check.{CheckSeen}
-use Rattle.renumber.specs.Seen.{FoundSeen}
-use Rattle.renumber.specs.Room.{hasRoom}
-use Rattle.copy.specs.Copying.{copyAsked}
+use Rattle.output.specs.Room.{roomIn, hasRoom}
+use Rattle.output.specs.Asking.{askedIn}
 use Rattle.unroll_to.specs.declared.Unrolled.{Unrolled}
 use Rattle.unroll_to.specs.Frames.{Frames, unrolled}
 
@@ -20,9 +20,9 @@ use Rattle.unroll_to.specs.Frames.{Frames, unrolled}
 abbrev pub maxFrames : ℕ
 maxFrames = 4096
 
--- answers 1 to 3, then "above 4,096 frames: 4"; and the marks
-abbrev pub unrollAsked : Lent → Lent → ℕ → List ℕ → CheckSeen
-unrollAsked g out n marks = copyAsked (leb n maxFrames) g out marks
+-- answers 1 to 3, where there is so much room for the output, then "above 4,096 frames: 4"; and the marks
+abbrev pub unrollAsked : Lent → Counts → ℕ → List ℕ → CheckSeen
+unrollAsked g room n marks = askedIn (leb n maxFrames) g room marks
 
 -- the answer, how many frames are finished, and the output with the counts that come back
 pub record Ran : Type 0 where
@@ -61,7 +61,7 @@ framesSeen r graph marks = record { ran = ran (told (r .answer)) (r .finished) g
 -- which come back after 1 to 4
 unfoldable pub unrollToCall : Lent → Lent → ℕ → List ℕ → FramesSeen
 unrollToCall g out n marks =
-    let t = unrollAsked g out n marks in
+    let t = unrollAsked g (roomIn out) n marks in
     record { ran = ifDone (t .given) (unrollRan g out n) (ran (t .given) 0 out); marks = t .marks }
 
 -- any two results that the promise allows are equal: the answer, the number of frames, every lent word with the counts, and the marks
@@ -71,11 +71,3 @@ pub unroll-to-determined : (g out : Lent) (n : ℕ) (marks : List ℕ) (r s : Un
 unroll-to-determined g out n marks r s a b l m p q =
     let t = determined (unrollToCall g out n) marks (framesSeen r a l) (framesSeen s b m) p q in
     (told-injective (r .answer) (s .answer) (ap (λ (x : FramesSeen). x .ran .given) t), ap (λ (x : FramesSeen). x .ran .finished) t, ap (λ (x : FramesSeen). x .ran .graph) t, ap (λ (x : FramesSeen). x .marks) t)
-
--- ---- between the check and the writing
--- answers 1 to 4, and whether the copy fits
-unfoldable pub unrollChecked : Lent → Lent → ℕ → List ℕ → FoundSeen
-unrollChecked g out n marks =
-    let t = unrollAsked g out n marks in
-    let fits = hasRoom out (g .counts) in
-    record { given = orElse (t .given) (cond fits done noRoom); counts = ifDone (t .given) (cond fits (g .counts) noCounts) (g .counts); marks = t .marks }

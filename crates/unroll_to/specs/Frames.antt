@@ -4,7 +4,7 @@ use Prim.Native.Nat.{ℕ, zero, suc, _+_}
 use mathlib.Core.Bool.{cond}
 use Rattle.graph.specs.Graph.{Lent}
 use Rattle.frame.specs.Frame.{framed, frameFits}
-use Rattle.copy.specs.Copying.{copyOf}
+use Rattle.output.specs.Copying.{copyOf}
 
 -- how many frames are finished, and the target with them
 pub record Frames : Type 0 where

@@ -1,4 +1,4 @@
 pub mod Frames
-pub mod Ready
 pub mod Call
 pub mod Meaning
+pub mod Steps

@@ -10,9 +10,9 @@ use Rattle.edge.specs.Answers.{done, noRoom}
 use Rattle.graph.specs.Graph.{Lent, Sized}
 use Rattle.graph.specs.WellFormed.{WellFormed}
 use Rattle.graph.specs.Exactly.{Answers}
-use Rattle.renumber.specs.Room.{limits, hasRoom, Limited, Room}
-use Rattle.copy.specs.Copying.{copyOf}
-use Rattle.copy.specs.Meaning.{IsCopy}
+use Rattle.output.specs.Room.{limits, hasRoom, Limited, Room}
+use Rattle.output.specs.Copying.{copyOf}
+use Rattle.output.specs.Meaning.{IsCopy}
 use Rattle.frame.specs.Frame.{framed, frameFits}
 use Rattle.frame.specs.Call.{FrameReady}
 use Rattle.frame.specs.Meaning.{FrameAdded}

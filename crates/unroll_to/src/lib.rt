@@ -3,17 +3,19 @@ ghost use mathlib.Core.Path.{_≡_};
 ghost use Rattle.edge.specs.Answers.{told};
 ghost use Rattle.graph.specs.Graph.{lent};
 ghost use Rattle.unroll_to.specs.Frames.{frames as framesOf, framesOn, unrolled};
-ghost use Rattle.unroll_to.specs.Ready.{FramesReady, Ready};
-ghost use Rattle.renumber.specs.Seen.{foundSeen};
-ghost use Rattle.unroll_to.specs.Call.{framesAnswer, framesSeen, unrollToCall, unrollChecked};
-use copy::asked;
-use copy::copy_graph;
+ghost use Rattle.unroll_to.specs.Steps.{FramesReady, UnrollReady};
+ghost use Rattle.renumber.specs.Steps.{foundSeen};
+ghost use Rattle.unroll_to.specs.Call.{framesAnswer, framesSeen, unrollToCall};
+ghost use Rattle.unroll_to.specs.Steps.{unrollChecked};
 use edge::Answer;
 use frame::add_frame;
 use graph::Counts;
+use graph::latch::LATCH_WORDS;
 use graph::no_counts;
+use output::asked;
+use output::copy_graph;
+use output::fits;
 use renumber::Rebuilt;
-use renumber::output::has_room;
 
 // At most so many frames.
 const MAX_FRAMES: usize = 4096;
@@ -110,7 +112,7 @@ fn add_frames(
     }
 }
 
-// Answers 1 to 4, and 5 where the copy itself does not fit.
+// Answers 1 to 4, and 5 where the copy itself does not fit into so much room.
 fn checked(
     rows: &[u32],
     inputs: &[u32],
@@ -123,23 +125,14 @@ fn checked(
     fairness: &[u32],
     counts: Counts,
     frames: usize,
-    rows2: &[u32],
-    inputs2: &[u32],
-    latches2: &[u32],
-    constraints2: &[u32],
-    bads2: &[u32],
-    outputs2: &[u32],
-    ends2: &[u32],
-    edges2: &[u32],
-    fairness2: &[u32],
+    room: Counts,
     marks: &mut [u32],
 ) -> Rebuilt
     ensures { λ r. ⌜
         foundSeen r (now (marks .exit))
         ≡ unrollChecked
         (lent (now (rows .entry)) (now (inputs .entry)) (now (latches .entry)) (now (constraints .entry)) (now (bads .entry)) (now (outputs .entry)) (now (ends .entry)) (now (edges .entry)) (now (fairness .entry)) counts)
-        (lent (now (rows2 .entry)) (now (inputs2 .entry)) (now (latches2 .entry)) (now (constraints2 .entry)) (now (bads2 .entry)) (now (outputs2 .entry)) (now (ends2 .entry)) (now (edges2 .entry)) (now (fairness2 .entry)) counts)
-        frames (now (marks .entry))
+        room frames (now (marks .entry))
         ⌝ }
 {
     let answer = asked(
@@ -154,32 +147,13 @@ fn checked(
         fairness,
         counts,
         frames <= MAX_FRAMES,
-        rows2,
-        inputs2,
-        latches2,
-        constraints2,
-        bads2,
-        outputs2,
-        ends2,
-        edges2,
-        fairness2,
+        room,
         marks,
     );
     if !edge::is_done(answer) {
         return Rebuilt { answer, counts };
     }
-    if !has_room(
-        rows2,
-        inputs2,
-        latches2,
-        constraints2,
-        bads2,
-        outputs2,
-        ends2,
-        edges2,
-        fairness2,
-        counts,
-    ) {
+    if !fits(room, counts) {
         return Rebuilt {
             answer: Answer::NoRoom,
             counts: no_counts(),
@@ -213,7 +187,7 @@ fn write(
     marks: &mut [u32],
 ) -> Finished
     requires { ⌜
-        Ready
+        UnrollReady
         (lent (now rows) (now inputs) (now latches) (now constraints) (now bads) (now outputs) (now ends) (now edges) (now fairness) counts)
         (lent (now rows2) (now inputs2) (now latches2) (now constraints2) (now bads2) (now outputs2) (now ends2) (now edges2) (now fairness2) counts)
         (now marks)
@@ -320,6 +294,17 @@ pub fn unroll_to(
         frames (now (marks .entry))
         ⌝ }
 {
+    let room = Counts {
+        rows: rows2.len() / 2,
+        inputs: inputs2.len(),
+        latches: latches2.len() / LATCH_WORDS,
+        constraints: constraints2.len(),
+        bads: bads2.len(),
+        outputs: outputs2.len(),
+        sets: ends2.len(),
+        edges: edges2.len(),
+        fairness: fairness2.len(),
+    };
     let found = checked(
         rows,
         inputs,
@@ -332,15 +317,7 @@ pub fn unroll_to(
         fairness,
         counts,
         frames,
-        rows2,
-        inputs2,
-        latches2,
-        constraints2,
-        bads2,
-        outputs2,
-        ends2,
-        edges2,
-        fairness2,
+        room,
         marks,
     );
     let answer = found.answer;

@@ -9,7 +9,9 @@ use Rattle.cases.proofs.start.Statement.{statement}
 use Rattle.cases.proofs.start.Tie as tie
 
 abbrev Inv-loop : tie.InvT-loop
-Inv-loop input₀ output₀ arena₀ scalars₀ small₀ middle₀ large₀ inputs₀ state₀ values₀ run₀ turns₀ input output arena scalars small middle large inputs state values run turns = (length input ≡ length input₀) × (length output ≡ length output₀) × (length arena ≡ length arena₀) × (length scalars ≡ length scalars₀) × (length small ≡ length small₀) × (length middle ≡ length middle₀) × (length large ≡ length large₀) × (length inputs ≡ length inputs₀) × (length state ≡ length state₀) × (length values ≡ length values₀)
+Inv-loop input₀ output₀ arena₀ scalars₀ small₀ middle₀ large₀ inputs₀ state₀ values₀ run₀ turns₀ input output arena scalars small middle large inputs state values run turns =
+    (length input ≡ length input₀) × (length output ≡ length output₀) × (length arena ≡ length arena₀) × (length scalars ≡ length scalars₀) × (length small ≡ length small₀) ×
+    (length middle ≡ length middle₀) × (length large ≡ length large₀) × (length inputs ≡ length inputs₀) × (length state ≡ length state₀) × (length values ≡ length values₀)
 
 abbrev μ-loop : tie.MeasureT-loop
 μ-loop input₀ output₀ arena₀ scalars₀ small₀ middle₀ large₀ inputs₀ state₀ values₀ run₀ turns₀ input output arena scalars small middle large inputs state values run turns = turns
@@ -36,10 +38,27 @@ written-requires : tie.Need-written-requires Inv-loop μ-loop
 written-requires c κs = search needs
 
 loop-less : tie.Need-loop-less Inv-loop μ-loop
-loop-less c = omega (arith, c .before .before .before .before .before .before .before .before .before .before .before .before .before .before .before .before .before .before .before .before .before .before .before .before .before .before .before .before .before .before .before .before .before .before .before .before .before .before .before .before .loop-test .taken)
+loop-less c =
+    let at-loop-test = c .before .before .before .before .before .before .before .before .before .before .before .before .before .before .before .before .before .before .before .before in
+    let at-loop-test = at-loop-test .before .before .before .before .before .before .before .before .before .before .before .before .before .before .before .before .before .before .before .before in
+    omega (arith, at-loop-test .loop-test .taken)
 
 loop-again : tie.Need-loop-again Inv-loop μ-loop
-loop-again c = (c .before .before .before .before .before .before .before .before .before .before .before .before .before .before .before .before .before .before .before .before .before .before .before .before .before .before .before .before .before .before .before .before .before .before .next-case .kept .0 ∙ c .before .before .before .before .before .before .before .before .before .before .before .before .before .before .before .before .before .before .before .before .before .before .before .before .before .before .before .before .before .before .before .before .before .before .before .before .before .before .before .before .before .loop .inv .0, c .before .before .written .kept .0 ∙ c .before .before .before .before .before .before .before .before .before .before .before .before .before .before .before .before .before .before .before .before .before .before .before .before .before .before .before .before .before .before .before .before .before .before .before .before .before .before .before .before .before .loop .inv .1, c .before .before .before .before .before .before .before .before .before .before .before .before .before .before .before .before .before .before .before .made .kept .1 .0 ∙ (c .before .before .before .before .before .before .before .before .before .before .before .before .before .before .before .before .before .before .before .before .before .before .before .before .before .before .before .before .before .before .before .before .before .before .next-case .kept .1 .0 ∙ c .before .before .before .before .before .before .before .before .before .before .before .before .before .before .before .before .before .before .before .before .before .before .before .before .before .before .before .before .before .before .before .before .before .before .before .before .before .before .before .before .before .loop .inv .2), c .before .before .before .before .before .before .before .before .before .before .before .before .before .before .before .before .before .before .before .before .before .before .before .before .before .before .before .before .before .before .before .before .before .before .next-case .kept .1 .1 .0 ∙ c .before .before .before .before .before .before .before .before .before .before .before .before .before .before .before .before .before .before .before .before .before .before .before .before .before .before .before .before .before .before .before .before .before .before .before .before .before .before .before .before .before .loop .inv .3, c .before .before .before .before .before .before .before .before .before .before .before .before .before .before .before .before .before .before .before .made .kept .1 .1 .1 .0 ∙ c .before .before .before .before .before .before .before .before .before .before .before .before .before .before .before .before .before .before .before .before .before .before .before .before .before .before .before .before .before .before .before .before .before .before .before .before .before .before .before .before .before .loop .inv .4, c .before .before .before .before .before .before .before .before .before .before .before .before .before .before .before .before .before .before .before .made .kept .1 .1 .1 .1 .0 ∙ c .before .before .before .before .before .before .before .before .before .before .before .before .before .before .before .before .before .before .before .before .before .before .before .before .before .before .before .before .before .before .before .before .before .before .before .before .before .before .before .before .before .loop .inv .5, c .before .before .before .before .before .before .before .before .before .before .before .before .before .before .before .before .before .before .before .made .kept .1 .1 .1 .1 .1 .0 ∙ c .before .before .before .before .before .before .before .before .before .before .before .before .before .before .before .before .before .before .before .before .before .before .before .before .before .before .before .before .before .before .before .before .before .before .before .before .before .before .before .before .before .loop .inv .6, c .before .before .before .before .before .before .before .before .before .before .before .before .before .before .before .before .before .before .before .made .kept .1 .1 .1 .1 .1 .1 .0 ∙ c .before .before .before .before .before .before .before .before .before .before .before .before .before .before .before .before .before .before .before .before .before .before .before .before .before .before .before .before .before .before .before .before .before .before .before .before .before .before .before .before .before .loop .inv .7, c .before .before .before .before .before .before .before .before .before .before .before .before .before .before .before .before .before .before .before .made .kept .1 .1 .1 .1 .1 .1 .1 .0 ∙ c .before .before .before .before .before .before .before .before .before .before .before .before .before .before .before .before .before .before .before .before .before .before .before .before .before .before .before .before .before .before .before .before .before .before .before .before .before .before .before .before .before .loop .inv .8, c .before .before .before .before .before .before .before .before .before .before .before .before .before .before .before .before .before .before .before .made .kept .1 .1 .1 .1 .1 .1 .1 .1 .0 ∙ c .before .before .before .before .before .before .before .before .before .before .before .before .before .before .before .before .before .before .before .before .before .before .before .before .before .before .before .before .before .before .before .before .before .before .before .before .before .before .before .before .before .loop .inv .9)
+loop-again c =
+    let at-made = c .before .before .before .before .before .before .before .before .before .before .before .before .before .before .before .before .before .before .before in
+    let at-next-case = at-made .before .before .before .before .before .before .before .before .before .before .before .before .before .before .before in
+    let at-loop = at-next-case .before .before .before .before .before .before .before in (
+      at-next-case .next-case .kept .0 ∙ at-loop .loop .inv .0,
+      c .before .before .written .kept .0 ∙ at-loop .loop .inv .1,
+      at-made .made .kept .1 .0 ∙ (at-next-case .next-case .kept .1 .0 ∙ at-loop .loop .inv .2),
+      at-next-case .next-case .kept .1 .1 .0 ∙ at-loop .loop .inv .3,
+      at-made .made .kept .1 .1 .1 .0 ∙ at-loop .loop .inv .4,
+      at-made .made .kept .1 .1 .1 .1 .0 ∙ at-loop .loop .inv .5,
+      at-made .made .kept .1 .1 .1 .1 .1 .0 ∙ at-loop .loop .inv .6,
+      at-made .made .kept .1 .1 .1 .1 .1 .1 .0 ∙ at-loop .loop .inv .7,
+      at-made .made .kept .1 .1 .1 .1 .1 .1 .1 .0 ∙ at-loop .loop .inv .8,
+      at-made .made .kept .1 .1 .1 .1 .1 .1 .1 .1 .0 ∙ at-loop .loop .inv .9,
+    )
 
 finish-requires : tie.Need-finish-requires Inv-loop μ-loop
 finish-requires c κs = search needs

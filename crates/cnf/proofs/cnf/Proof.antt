@@ -23,48 +23,121 @@ same-length c = search needs
 
 returns : tie.Need-returns
 unfolding graph
-returns c = let s = c .before .before .before .before .before .before .before .before .before .before .before .before .before .before .before .before .before in let a = s .args in cnf-refused (graph s) (a .shortcuts) (a .clauses .now) (a .marks .now) (c .before .before .before .before .check .result) (c .before .before .before .before .check .ensures) (c .before .is-done .ensures) (c .if1 .taken)
+returns c =
+    let at-check = c .before .before .before .before in
+    let back17 = at-check .before .before .before .before .before .before .before .before .before .before .before .before .before in
+    let s = back17 in
+    let a = s .args in
+    cnf-refused (graph s) (a .shortcuts) (a .clauses .now) (a .marks .now) (at-check .check .result) (at-check .check .ensures) (c .before .is-done .ensures) (c .if1 .taken)
 
 slice-relend-prefix-has-room : tie.Need-slice-relend-prefix-has-room
 unfolding graph
-slice-relend-prefix-has-room c = let s = c .before .before .before .before .before .before .before .before .before .before .before .before .before .before .before .before .before in let a = s .args in marks-long (graph s) (a .shortcuts) (a .clauses .now) (a .marks .now) (c .before .before .before .before .check .result) (c .before .before .before .before .check .ensures) (c .before .is-done .ensures) (c .if1 .left)
+slice-relend-prefix-has-room c =
+    let at-check = c .before .before .before .before in
+    let back17 = at-check .before .before .before .before .before .before .before .before .before .before .before .before .before in
+    let s = back17 in
+    let a = s .args in
+    marks-long (graph s) (a .shortcuts) (a .clauses .now) (a .marks .now) (at-check .check .result) (at-check .check .ensures) (c .before .is-done .ensures) (c .if1 .left)
 
 slice-aggregate-has-room : tie.Need-slice-aggregate-has-room
 unfolding graph
-slice-aggregate-has-room c = let s = c .before .before .before .before .before .before .before .before .before .before .before .before .before .before .before .before .before .before in let a = s .args in sym (part-long (graph s) (a .shortcuts) (a .clauses .now) (a .marks .now) (c .before .before .before .before .before .check .result) (c .before .before .before .before .before .check .ensures) (c .before .before .is-done .ensures) (c .before .if1 .left))
+slice-aggregate-has-room c =
+    let at-check = c .before .before .before .before .before in
+    let back18 = at-check .before .before .before .before .before .before .before .before .before .before .before .before .before in
+    let s = back18 in
+    let a = s .args in
+    sym
+    (part-long (graph s) (a .shortcuts) (a .clauses .now) (a .marks .now) (at-check .check .result) (at-check .check .ensures) (c .before .before .is-done .ensures) (c .before .if1 .left))
 
 has-room-requires : tie.Need-has-room-requires
 unfolding graph
-has-room-requires c κs = let s = c .before .before .before .before .before .before .before .before .before .before .before .before .before .before .before .before .before .before in let a = s .args in (roots-fit (graph s) (a .shortcuts) (a .clauses .now) (a .marks .now) (c .before .before .before .before .before .check .result) (c .before .before .before .before .before .check .ensures) (c .before .before .is-done .ensures) (c .before .if1 .left), ready (graph s) (a .shortcuts) (a .clauses .now) (a .marks .now) (c .before .before .before .before .before .check .result) (c .before .before .before .before .before .check .ensures) (c .before .before .is-done .ensures) (c .before .if1 .left))
+has-room-requires c κs =
+    let at-check = c .before .before .before .before .before in
+    let back18 = at-check .before .before .before .before .before .before .before .before .before .before .before .before .before in
+    let s = back18 in
+    let a = s .args in (
+      roots-fit (graph s) (a .shortcuts) (a .clauses .now) (a .marks .now) (at-check .check .result) (at-check .check .ensures) (c .before .before .is-done .ensures) (c .before .if1 .left),
+      ready (graph s) (a .shortcuts) (a .clauses .now) (a .marks .now) (at-check .check .result) (at-check .check .ensures) (c .before .before .is-done .ensures) (c .before .if1 .left),
+    )
 
 same-length-2 : tie.Need-same-length-2
 same-length-2 c = search needs
 
 returns-2 : tie.Need-returns-2
 unfolding graph
-returns-2 c = let s = c .before .before .before .before .before .before .before .before .before .before .before .before .before .before .before .before .before .before .before .before .before .before in let a = s .args in cnf-short (graph s) (a .shortcuts) (a .clauses .now) (a .marks .now) (c .before .before .before .before .before .before .before .before .before .check .result) (c .before .before .before .before .before .before .before .before .before .check .ensures) (c .before .before .before .before .before .before .is-done .ensures) (c .before .before .before .before .before .if1 .left) (c .before .before .before .has-room .ensures .1) (c .before .before .before .has-room .ensures .0) (c .if2 .taken)
+returns-2 c =
+    let at-if1 = c .before .before .before .before .before in
+    let at-is-done = at-if1 .before in
+    let at-check = at-is-done .before .before .before in
+    let back22 = at-check .before .before .before .before .before .before .before .before .before .before .before .before .before in
+    let s = back22 in
+    let a = s .args in
+    cnf-short (graph s) (a .shortcuts) (a .clauses .now) (a .marks .now) (at-check .check .result) (at-check .check .ensures) (at-is-done .is-done .ensures) (at-if1 .if1 .left)
+    (c .before .before .before .has-room .ensures .1) (c .before .before .before .has-room .ensures .0) (c .if2 .taken)
 
 slice-relend-prefix-put-words : tie.Need-slice-relend-prefix-put-words
 unfolding graph
-slice-relend-prefix-put-words c = let s = c .before .before .before .before .before .before .before .before .before .before .before .before .before .before .before .before .before .before .before .before .before .before .before in let a = s .args in again-long (graph s) (a .shortcuts) (a .clauses .now) (a .marks .now) (c .before .before .before .before .before .before .before .before .before .before .check .result) (c .before .before .before .before .before .before .before .before .before .before .check .ensures) (c .before .before .before .before .before .before .before .is-done .ensures) (c .before .before .before .before .before .before .if1 .left) (c .before .before .before .before .has-room .ensures .1)
+slice-relend-prefix-put-words c =
+    let at-has-room = c .before .before .before .before in
+    let at-if1 = at-has-room .before .before in
+    let at-is-done = at-if1 .before in
+    let at-check = at-is-done .before .before .before in
+    let back23 = at-check .before .before .before .before .before .before .before .before .before .before .before .before .before in
+    let s = back23 in
+    let a = s .args in
+    again-long (graph s) (a .shortcuts) (a .clauses .now) (a .marks .now) (at-check .check .result) (at-check .check .ensures) (at-is-done .is-done .ensures) (at-if1 .if1 .left)
+    (at-has-room .has-room .ensures .1)
 
 slice-aggregate-put-words : tie.Need-slice-aggregate-put-words
 unfolding graph
-slice-aggregate-put-words c = let s = c .before .before .before .before .before .before .before .before .before .before .before .before .before .before .before .before .before .before .before .before .before .before .before .before in let a = s .args in sym (again-part (graph s) (a .shortcuts) (a .clauses .now) (a .marks .now) (c .before .before .before .before .before .before .before .before .before .before .before .check .result) (c .before .before .before .before .before .before .before .before .before .before .before .check .ensures) (c .before .before .before .before .before .before .before .before .is-done .ensures) (c .before .before .before .before .before .before .before .if1 .left) (c .before .before .before .before .before .has-room .ensures .1))
+slice-aggregate-put-words c =
+    let at-has-room = c .before .before .before .before .before in
+    let at-if1 = at-has-room .before .before in
+    let at-is-done = at-if1 .before in
+    let at-check = at-is-done .before .before .before in
+    let back24 = at-check .before .before .before .before .before .before .before .before .before .before .before .before .before in
+    let s = back24 in
+    let a = s .args in
+    sym
+    (again-part (graph s) (a .shortcuts) (a .clauses .now) (a .marks .now) (at-check .check .result) (at-check .check .ensures) (at-is-done .is-done .ensures) (at-if1 .if1 .left)
+    (at-has-room .has-room .ensures .1))
 
 put-words-requires : tie.Need-put-words-requires
 unfolding graph
-put-words-requires c κs = let s = c .before .before .before .before .before .before .before .before .before .before .before .before .before .before .before .before .before .before .before .before .before .before .before .before in let a = s .args in (roots-fit (graph s) (a .shortcuts) (a .clauses .now) (a .marks .now) (c .before .before .before .before .before .before .before .before .before .before .before .check .result) (c .before .before .before .before .before .before .before .before .before .before .before .check .ensures) (c .before .before .before .before .before .before .before .before .is-done .ensures) (c .before .before .before .before .before .before .before .if1 .left), again-ready (graph s) (a .shortcuts) (a .clauses .now) (a .marks .now) (c .before .before .before .before .before .before .before .before .before .before .before .check .result) (c .before .before .before .before .before .before .before .before .before .before .before .check .ensures) (c .before .before .before .before .before .before .before .before .is-done .ensures) (c .before .before .before .before .before .before .before .if1 .left) (c .before .before .before .before .before .has-room .ensures .1))
+put-words-requires c κs =
+    let at-has-room = c .before .before .before .before .before in
+    let at-if1 = at-has-room .before .before in
+    let at-is-done = at-if1 .before in
+    let at-check = at-is-done .before .before .before in
+    let back24 = at-check .before .before .before .before .before .before .before .before .before .before .before .before .before in
+    let s = back24 in
+    let a = s .args in (
+      roots-fit (graph s) (a .shortcuts) (a .clauses .now) (a .marks .now) (at-check .check .result) (at-check .check .ensures) (at-is-done .is-done .ensures) (at-if1 .if1 .left),
+      again-ready (graph s) (a .shortcuts) (a .clauses .now) (a .marks .now) (at-check .check .result) (at-check .check .ensures) (at-is-done .is-done .ensures) (at-if1 .if1 .left)
+          (at-has-room .has-room .ensures .1),
+    )
 
 same-length-3 : tie.Need-same-length-3
-same-length-3 c = search needs
+same-length-3 c = c .before .before .before .before .put-words .kept .1 .1 .1 .1 .1 .1 .1 .1 .1 .0
 
 same-length-4 : tie.Need-same-length-4
 same-length-4 c = search needs
 
 returns-3 : tie.Need-returns-3
 unfolding graph
-returns-3 c = let s = c .before .before .before .before .before .before .before .before .before .before .before .before .before .before .before .before .before .before .before .before .before .before .before .before .before .before .before .before .before in let a = s .args in cnf-done (graph s) (a .shortcuts) (a .clauses .now) (a .marks .now) (c .before .before .before .before .before .before .before .before .before .before .before .before .before .before .before .before .check .result) (c .before .before .before .before .before .before .before .before .before .before .before .before .before .before .before .before .check .ensures) (c .before .before .before .before .before .before .before .before .before .before .before .before .before .is-done .ensures) (c .before .before .before .before .before .before .before .before .before .before .before .before .if1 .left) (c .before .before .before .before .before .before .before .before .before .before .has-room .ensures .1) (c .before .before .before .before .before .before .before .before .before .before .has-room .ensures .0) (c .before .before .before .before .before .before .before .if2 .left) (c .before .before .before .before .put-words .ensures .0) (c .before .before .before .before .put-words .ensures .1 .1) (c .before .before .before .before .put-words .ensures .1 .0)
+returns-3 c =
+    let at-put-words = c .before .before .before .before in
+    let at-if2 = at-put-words .before .before .before in
+    let at-has-room = at-if2 .before .before .before in
+    let at-if1 = at-has-room .before .before in
+    let at-is-done = at-if1 .before in
+    let at-check = at-is-done .before .before .before in
+    let back29 = at-check .before .before .before .before .before .before .before .before .before .before .before .before .before in
+    let s = back29 in
+    let a = s .args in
+    cnf-done (graph s) (a .shortcuts) (a .clauses .now) (a .marks .now) (at-check .check .result) (at-check .check .ensures) (at-is-done .is-done .ensures) (at-if1 .if1 .left)
+    (at-has-room .has-room .ensures .1) (at-has-room .has-room .ensures .0) (at-if2 .if2 .left) (at-put-words .put-words .ensures .0) (at-put-words .put-words .ensures .1 .1)
+    (at-put-words .put-words .ensures .1 .0)
 
 pub cnf-spec : {M : Type 1} → statement M
 cnf-spec =

@@ -48,8 +48,11 @@ is-gate-requires c κs = search needs
 
 add-gates : tie.Need-add-gates Inv-loop μ-loop
 add-gates c =
-    let l = c .before .before .before .before .before .loop in
-    omega (arith, count-small (gateAt (c .before .before .before .before .before .before .before .args .rows .now)) (l .i) (l .inv .1), c .before .before .before .before .loop-test .taken, c .before .before .before .before .before .before .before .fits .n)
+    let at-loop-test = c .before .before .before .before in
+    let at-loop = at-loop-test .before in
+    let start = at-loop .before .before in
+    let l = at-loop .loop in
+    omega (arith, count-small (gateAt (start .args .rows .now)) (l .i) (l .inv .1), at-loop-test .loop-test .taken, start .fits .n)
 
 add-i : tie.Need-add-i Inv-loop μ-loop
 add-i c = search needs
@@ -60,8 +63,11 @@ loop-less c = search needs
 loop-again : tie.Need-loop-again Inv-loop μ-loop
 loop-again c =
     let l = c .before .before .before .before .before .loop in
-    let gate = gateAt (c .before .before .before .before .before .before .before .args .rows .now) in
-    (search needs, ⊎-elim (λ w. count-taken gate (l .i) (l .inv .1) (sym (c .before .is-gate .ensures) ∙ w .0 .taken) (w .1)) (λ w. count-left gate (l .i) (l .inv .1) (sym (c .before .is-gate .ensures) ∙ w .0 .left) (w .1)) (c .if1 .came))
+    let gate = gateAt (c .before .before .before .before .before .before .before .args .rows .now) in (
+      search needs,
+      ⊎-elim (λ w. count-taken gate (l .i) (l .inv .1) (sym (c .before .is-gate .ensures) ∙ w .0 .taken) (w .1))
+          (λ w. count-left gate (l .i) (l .inv .1) (sym (c .before .is-gate .ensures) ∙ w .0 .left) (w .1)) (c .if1 .came),
+    )
 
 returns : tie.Need-returns Inv-loop μ-loop
 returns c = rw (le-antisymm (c .before .loop .inv .0) (c .loop-test .left)) at (c .before .loop .inv .1)

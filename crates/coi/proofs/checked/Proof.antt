@@ -2,8 +2,8 @@
 -- Assumes nothing.
 use borrow.Author.Tests.{not-true, not-false}
 use Rattle.graph.specs.Graph.{Lent, lent}
-use Rattle.roots.specs.Arguments.{every}
-use Rattle.roots.proofs.Arguments.{args-room, args-bad, args-told}
+use Rattle.root_marks.specs.Arguments.{every}
+use Rattle.root_marks.proofs.Arguments.{args-room, args-bad, args-told}
 use Rattle.coi.specs.Coi.{usedRow}
 use Rattle.coi.specs.Call.{coiRoom, coiChecked}
 use borrow.Author.Needs.{needs}
@@ -17,7 +17,10 @@ graph c =
 
 returns : tie.Need-returns
 unfolding graph coiChecked
-returns c = args-room (coiRoom (graph (c .before .before .before .before .before .before .before .before .before .before .before .before .before .before)) (c .before .before .before .before .before .before .before .before .before .before .before .before .before .before .args .ids .now) (c .before .before .before .before .before .before .before .before .before .before .before .before .before .before .args .flags) (c .before .before .before .before .before .before .before .before .before .before .before .before .before .before .args .stack)) (every (usedRow (c .before .before .before .before .before .before .before .before .before .before .before .before .before .before .args .counts .rows)) (c .before .before .before .before .before .before .before .before .before .before .before .before .before .before .args .ids .now)) (graph (c .before .before .before .before .before .before .before .before .before .before .before .before .before .before)) (c .before .before .before .before .before .before .before .before .before .before .before .before .before .before .args .marks .now) (not-true _ (c .if1 .taken))
+returns c =
+    let start = c .before .before .before .before .before .before .before .before .before .before .before .before .before .before in
+    args-room (coiRoom (graph start) (start .args .ids .now) (start .args .flags) (start .args .stack)) (every (usedRow (start .args .counts .rows)) (start .args .ids .now))
+    (graph start) (start .args .marks .now) (not-true _ (c .if1 .taken))
 
 check-requires : tie.Need-check-requires
 check-requires c κs = search needs
@@ -29,18 +32,30 @@ ids-used-requires : tie.Need-ids-used-requires
 ids-used-requires c κs = search needs
 
 same-length : tie.Need-same-length
-same-length c = search needs
+same-length c = c .before .before .before .before .before .check .kept .1 .1 .1 .1 .1 .1 .1 .1 .1 .1 .0
 
 returns-2 : tie.Need-returns-2
 unfolding graph coiChecked
-returns-2 c = args-bad (coiRoom (graph (c .before .before .before .before .before .before .before .before .before .before .before .before .before .before .before .before .before .before .before .before .before)) (c .before .before .before .before .before .before .before .before .before .before .before .before .before .before .before .before .before .before .before .before .before .args .ids .now) (c .before .before .before .before .before .before .before .before .before .before .before .before .before .before .before .before .before .before .before .before .before .args .flags) (c .before .before .before .before .before .before .before .before .before .before .before .before .before .before .before .before .before .before .before .before .before .args .stack)) (every (usedRow (c .before .before .before .before .before .before .before .before .before .before .before .before .before .before .before .before .before .before .before .before .before .args .counts .rows)) (c .before .before .before .before .before .before .before .before .before .before .before .before .before .before .before .before .before .before .before .before .before .args .ids .now)) (graph (c .before .before .before .before .before .before .before .before .before .before .before .before .before .before .before .before .before .before .before .before .before)) (c .before .before .before .before .before .before .before .before .before .before .before .before .before .before .before .before .before .before .before .before .before .args .marks .now) (not-false _ (c .before .before .before .before .before .before .before .if1 .left)) (c .before .before .before .before .before .check .result) _ (c .before .before .before .before .before .check .ensures) (rw (← (c .before .before .is-done .ensures), ← (c .before .ids-used .ensures)) (c .if2 .taken))
+returns-2 c =
+    let at-check = c .before .before .before .before .before in
+    let at-if1 = at-check .before .before in
+    let start = at-if1 .before .before .before .before .before .before .before .before .before .before .before .before .before .before in
+    args-bad (coiRoom (graph start) (start .args .ids .now) (start .args .flags) (start .args .stack)) (every (usedRow (start .args .counts .rows)) (start .args .ids .now)) (graph start)
+    (start .args .marks .now) (not-false _ (at-if1 .if1 .left)) (at-check .check .result) _ (at-check .check .ensures)
+    (rw (← (c .before .before .is-done .ensures), ← (c .before .ids-used .ensures)) (c .if2 .taken))
 
 same-length-2 : tie.Need-same-length-2
-same-length-2 c = search needs
+same-length-2 c = c .before .before .before .before .before .check .kept .1 .1 .1 .1 .1 .1 .1 .1 .1 .1 .0
 
 returns-3 : tie.Need-returns-3
 unfolding graph coiChecked
-returns-3 c = args-told (coiRoom (graph (c .before .before .before .before .before .before .before .before .before .before .before .before .before .before .before .before .before .before .before .before .before)) (c .before .before .before .before .before .before .before .before .before .before .before .before .before .before .before .before .before .before .before .before .before .args .ids .now) (c .before .before .before .before .before .before .before .before .before .before .before .before .before .before .before .before .before .before .before .before .before .args .flags) (c .before .before .before .before .before .before .before .before .before .before .before .before .before .before .before .before .before .before .before .before .before .args .stack)) (every (usedRow (c .before .before .before .before .before .before .before .before .before .before .before .before .before .before .before .before .before .before .before .before .before .args .counts .rows)) (c .before .before .before .before .before .before .before .before .before .before .before .before .before .before .before .before .before .before .before .before .before .args .ids .now)) (graph (c .before .before .before .before .before .before .before .before .before .before .before .before .before .before .before .before .before .before .before .before .before)) (c .before .before .before .before .before .before .before .before .before .before .before .before .before .before .before .before .before .before .before .before .before .args .marks .now) (not-false _ (c .before .before .before .before .before .before .before .if1 .left)) (c .before .before .before .before .before .check .result) _ (c .before .before .before .before .before .check .ensures) (rw (← (c .before .before .is-done .ensures), ← (c .before .ids-used .ensures)) (c .if2 .left))
+returns-3 c =
+    let at-check = c .before .before .before .before .before in
+    let at-if1 = at-check .before .before in
+    let start = at-if1 .before .before .before .before .before .before .before .before .before .before .before .before .before .before in
+    args-told (coiRoom (graph start) (start .args .ids .now) (start .args .flags) (start .args .stack)) (every (usedRow (start .args .counts .rows)) (start .args .ids .now))
+    (graph start) (start .args .marks .now) (not-false _ (at-if1 .if1 .left)) (at-check .check .result) _ (at-check .check .ensures)
+    (rw (← (c .before .before .is-done .ensures), ← (c .before .ids-used .ensures)) (c .if2 .left))
 
 pub checked-spec : {M : Type 1} → statement M
 checked-spec =

@@ -13,9 +13,20 @@ graph c =
     lent (a .rows .now) (a .inputs .now) (a .latches .now) (a .constraints .now) (a .bads .now) (a .outputs .now) (a .ends .now) (a .edges .now) (a .fairness .now) (a .counts)
 
 -- the call is accepted
-known : (c : tie.Else2) → Parts (graph (c .before .before .before .before .before .before .before .before .before .before .before .before .before .before .before .before .before .before .before .before .before .before .before .before .before)) (c .before .before .before .before .before .before .before .before .before .before .before .before .before .before .before .before .before .before .before .before .before .before .before .before .before .args .ids .now) (c .before .before .before .before .before .before .before .before .before .before .before .before .before .before .before .before .before .before .before .before .before .before .before .before .before .args .flags .now) (c .before .before .before .before .before .before .before .before .before .before .checked .last .1 .1 .1 .1 .1 .1 .1 .1 .1 .1 .1 .1 .1 .0) (c .before .before .before .before .clear .last .0)
+known : (c : tie.Else2) →
+    let at-clear = c .before .before .before .before in
+    let at-checked = at-clear .before .before .before .before .before .before in
+    let start = at-checked .before .before .before .before .before .before .before .before .before .before .before .before .before .before .before in
+    Parts (graph start) (start .args .ids .now) (start .args .flags .now) (at-checked .checked .last .1 .1 .1 .1 .1 .1 .1 .1 .1 .1 .1 .1 .1 .0) (at-clear .clear .last .0)
 unfolding graph
-known c = parts (graph (c .before .before .before .before .before .before .before .before .before .before .before .before .before .before .before .before .before .before .before .before .before .before .before .before .before)) (c .before .before .before .before .before .before .before .before .before .before .before .before .before .before .before .before .before .before .before .before .before .before .before .before .before .args .ids .now) (c .before .before .before .before .before .before .before .before .before .before .before .before .before .before .before .before .before .before .before .before .before .before .before .before .before .args .flags .now) (c .before .before .before .before .before .before .before .before .before .before .before .before .before .before .before .before .before .before .before .before .before .before .before .before .before .args .marks .now) (c .before .before .before .before .before .before .before .before .before .before .before .before .before .before .before .before .before .before .before .before .before .before .before .before .before .args .stack .now) (c .before .before .before .before .before .before .before .before .before .before .checked .result) (c .before .before .before .before .before .before .before .before .before .before .checked .ensures) (c .before .before .before .before .before .before .before .is-bad-sizes .ensures) (c .before .before .before .before .before .before .if1 .left) (c .before .before .before .before .clear .ensures) (c .before .is-done .ensures) (c .if2 .left)
+known c =
+    let at-clear = c .before .before .before .before in
+    let at-if1 = at-clear .before .before in
+    let at-is-bad-sizes = at-if1 .before in
+    let at-checked = at-is-bad-sizes .before .before .before in
+    let start = at-checked .before .before .before .before .before .before .before .before .before .before .before .before .before .before .before in
+    parts (graph start) (start .args .ids .now) (start .args .flags .now) (start .args .marks .now) (start .args .stack .now) (at-checked .checked .result) (at-checked .checked .ensures)
+    (at-is-bad-sizes .is-bad-sizes .ensures) (at-if1 .if1 .left) (at-clear .clear .ensures) (c .before .is-done .ensures) (c .if2 .left)
 
 checked-requires : tie.Need-checked-requires
 checked-requires c κs = search needs
@@ -28,11 +39,19 @@ same-length c = search needs
 
 returns : tie.Need-returns
 unfolding graph
-returns c = coi-sizes (graph (c .before .before .before .before .before .before .before .before .before .before .before .before .before .before .before .before .before .before .before)) (c .before .before .before .before .before .before .before .before .before .before .before .before .before .before .before .before .before .before .before .args .ids .now) (c .before .before .before .before .before .before .before .before .before .before .before .before .before .before .before .before .before .before .before .args .flags .now) (c .before .before .before .before .before .before .before .before .before .before .before .before .before .before .before .before .before .before .before .args .marks .now) (c .before .before .before .before .before .before .before .before .before .before .before .before .before .before .before .before .before .before .before .args .stack .now) (c .before .before .before .before .checked .result) (c .before .before .before .before .checked .ensures) (c .before .is-bad-sizes .ensures) (c .if1 .taken)
+returns c =
+    let at-checked = c .before .before .before .before in
+    let start = at-checked .before .before .before .before .before .before .before .before .before .before .before .before .before .before .before in
+    coi-sizes (graph start) (start .args .ids .now) (start .args .flags .now) (start .args .marks .now) (start .args .stack .now) (at-checked .checked .result)
+    (at-checked .checked .ensures) (c .before .is-bad-sizes .ensures) (c .if1 .taken)
 
 clear-requires : tie.Need-clear-requires
 unfolding graph
-clear-requires c κs = stack-room (graph (c .before .before .before .before .before .before .before .before .before .before .before .before .before .before .before .before .before .before .before .before)) (c .before .before .before .before .before .before .before .before .before .before .before .before .before .before .before .before .before .before .before .before .args .ids .now) (c .before .before .before .before .before .before .before .before .before .before .before .before .before .before .before .before .before .before .before .before .args .flags .now) (c .before .before .before .before .before .before .before .before .before .before .before .before .before .before .before .before .before .before .before .before .args .marks .now) (c .before .before .before .before .before .before .before .before .before .before .before .before .before .before .before .before .before .before .before .before .args .stack .now) (c .before .before .before .before .before .checked .result) (c .before .before .before .before .before .checked .ensures) (c .before .before .is-bad-sizes .ensures) (c .before .if1 .left)
+clear-requires c κs =
+    let at-checked = c .before .before .before .before .before in
+    let start = at-checked .before .before .before .before .before .before .before .before .before .before .before .before .before .before .before in
+    stack-room (graph start) (start .args .ids .now) (start .args .flags .now) (start .args .marks .now) (start .args .stack .now) (at-checked .checked .result)
+    (at-checked .checked .ensures) (c .before .before .is-bad-sizes .ensures) (c .before .if1 .left)
 
 is-done-requires : tie.Need-is-done-requires
 is-done-requires c κs = search needs
@@ -45,7 +64,14 @@ same-length-3 c = search needs
 
 returns-2 : tie.Need-returns-2
 unfolding graph
-returns-2 c = coi-refused (graph (c .before .before .before .before .before .before .before .before .before .before .before .before .before .before .before .before .before .before .before .before .before .before .before .before .before)) (c .before .before .before .before .before .before .before .before .before .before .before .before .before .before .before .before .before .before .before .before .before .before .before .before .before .args .ids .now) (c .before .before .before .before .before .before .before .before .before .before .before .before .before .before .before .before .before .before .before .before .before .before .before .before .before .args .flags .now) (c .before .before .before .before .before .before .before .before .before .before .before .before .before .before .before .before .before .before .before .before .before .before .before .before .before .args .marks .now) (c .before .before .before .before .before .before .before .before .before .before .before .before .before .before .before .before .before .before .before .before .before .before .before .before .before .args .stack .now) (c .before .before .before .before .before .before .before .before .before .before .checked .result) (c .before .before .before .before .before .before .before .before .before .before .checked .ensures) (c .before .before .before .before .before .before .before .is-bad-sizes .ensures) (c .before .before .before .before .before .before .if1 .left) (c .before .before .before .before .clear .ensures) (c .before .is-done .ensures) (c .if2 .taken)
+returns-2 c =
+    let at-clear = c .before .before .before .before in
+    let at-if1 = at-clear .before .before in
+    let at-is-bad-sizes = at-if1 .before in
+    let at-checked = at-is-bad-sizes .before .before .before in
+    let start = at-checked .before .before .before .before .before .before .before .before .before .before .before .before .before .before .before in
+    coi-refused (graph start) (start .args .ids .now) (start .args .flags .now) (start .args .marks .now) (start .args .stack .now) (at-checked .checked .result)
+    (at-checked .checked .ensures) (at-is-bad-sizes .is-bad-sizes .ensures) (at-if1 .if1 .left) (at-clear .clear .ensures) (c .before .is-done .ensures) (c .if2 .taken)
 
 slice-relend-prefix-write : tie.Need-slice-relend-prefix-write
 unfolding graph
@@ -73,7 +99,8 @@ slice-aggregate-write-3 c = sym (known (c .before .before .before) .stack-part)
 
 write-requires : tie.Need-write-requires
 unfolding graph
-write-requires c κs = (known (c .before .before .before) .known, (known (c .before .before .before) .ids-used, (known (c .before .before .before) .zeros, known (c .before .before .before) .same-long)))
+write-requires c κs =
+    (known (c .before .before .before) .known, (known (c .before .before .before) .ids-used, (known (c .before .before .before) .zeros, known (c .before .before .before) .same-long)))
 
 same-length-4 : tie.Need-same-length-4
 same-length-4 c = search needs
@@ -86,7 +113,18 @@ same-length-6 c = search needs
 
 returns-3 : tie.Need-returns-3
 unfolding graph
-returns-3 c = coi-done (graph (c .before .before .before .before .before .before .before .before .before .before .before .before .before .before .before .before .before .before .before .before .before .before .before .before .before .before .before .before .before .before .before .before .before .before .before)) (c .before .before .before .before .before .before .before .before .before .before .before .before .before .before .before .before .before .before .before .before .before .before .before .before .before .before .before .before .before .before .before .before .before .before .before .args .ids .now) (c .before .before .before .before .before .before .before .before .before .before .before .before .before .before .before .before .before .before .before .before .before .before .before .before .before .before .before .before .before .before .before .before .before .before .before .args .flags .now) (c .before .before .before .before .before .before .before .before .before .before .before .before .before .before .before .before .before .before .before .before .before .before .before .before .before .before .before .before .before .before .before .before .before .before .before .args .marks .now) (c .before .before .before .before .before .before .before .before .before .before .before .before .before .before .before .before .before .before .before .before .before .before .before .before .before .before .before .before .before .before .before .before .before .before .before .args .stack .now) (c .before .before .before .before .before .before .before .before .before .before .before .before .before .before .before .before .before .before .before .before .checked .result) (c .before .before .before .before .before .before .before .before .before .before .before .before .before .before .before .before .before .before .before .before .checked .ensures) (c .before .before .before .before .before .before .before .before .before .before .before .before .before .before .before .before .before .is-bad-sizes .ensures) (c .before .before .before .before .before .before .before .before .before .before .before .before .before .before .before .before .if1 .left) (c .before .before .before .before .before .before .before .before .before .before .before .before .before .before .clear .ensures) (c .before .before .before .before .before .before .before .before .before .before .before .is-done .ensures) (c .before .before .before .before .before .before .before .before .before .before .if2 .left) (c .before .before .before .before .before .before .write .ensures .0) (c .before .before .before .before .before .before .write .ensures .1 .0) (c .before .before .before .before .before .before .write .ensures .1 .1)
+returns-3 c =
+    let at-write = c .before .before .before .before .before .before in
+    let at-if2 = at-write .before .before .before .before in
+    let at-is-done = at-if2 .before in
+    let at-clear = at-is-done .before .before .before in
+    let at-if1 = at-clear .before .before in
+    let at-is-bad-sizes = at-if1 .before in
+    let at-checked = at-is-bad-sizes .before .before .before in
+    let start = at-checked .before .before .before .before .before .before .before .before .before .before .before .before .before .before .before in
+    coi-done (graph start) (start .args .ids .now) (start .args .flags .now) (start .args .marks .now) (start .args .stack .now) (at-checked .checked .result)
+    (at-checked .checked .ensures) (at-is-bad-sizes .is-bad-sizes .ensures) (at-if1 .if1 .left) (at-clear .clear .ensures) (at-is-done .is-done .ensures) (at-if2 .if2 .left)
+    (at-write .write .ensures .0) (at-write .write .ensures .1 .0) (at-write .write .ensures .1 .1)
 
 pub coi-spec : {M : Type 1} → statement M
 coi-spec =

@@ -5,8 +5,8 @@ use native.Mathlib.Omega.{arith}
 use mathlib.Core.Path.{_≡_, refl, sym, _∙_}
 use lib.ListN.{length, drop}
 use borrow.Author.Tests.{lt-ltb, le-ltb}
-use Rattle.roots.specs.Arguments.{every}
-use Rattle.roots.proofs.Arguments.{every-end, every-stops, every-goes}
+use Rattle.root_marks.specs.Arguments.{every}
+use Rattle.root_marks.proofs.Arguments.{every-end, every-stops, every-goes}
 use Rattle.coi.specs.Coi.{usedRow}
 use borrow.Author.Needs.{needs}
 use Rattle.coi.proofs.ids_used.Statement.{statement}

@@ -4,7 +4,6 @@ use native.Mathlib.Omega.{arith}
 use mathlib.Core.Path.{_≡_, _∙_}
 use lib.ListN.{length}
 use Rattle.coi.proofs.Linking.{known, searched-same, zeros-long, all-zeros}
-use borrow.Author.Needs.{needs}
 use Rattle.coi.proofs.write.Statement.{statement}
 use Rattle.coi.proofs.write.Tie as tie
 
@@ -13,31 +12,58 @@ marks-long : (c : tie.Start) → length (c .args .marks .now) ≡ length (c .arg
 marks-long c = zeros-long (c .args .marks .now) (length (c .args .flags .now)) (c .pre .1 .1 .0)
 
 link-requires : tie.Need-link-requires
-link-requires c κs = rw (marks-long (c .before .before .before .before .before .before .before)) (c .before .before .before .before .before .before .before .pre .0 .latches-known, c .before .before .before .before .before .before .before .pre .1 .1 .0)
+link-requires c κs =
+    let start = c .before .before .before .before .before .before .before in
+    rw (marks-long start) (start .pre .0 .latches-known, start .pre .1 .1 .0)
 
 search-requires : tie.Need-search-requires
-search-requires c κs = (known _ _ _ _ (c .before .before .before .before .before .link .ensures) _ (c .before .before .before .before .before .before .before .before .before .before .before .before .before .pre .0) (c .before .before .before .before .marks .given ∙ marks-long (c .before .before .before .before .before .before .before .before .before .before .before .before .before)), (c .before .before .before .before .before .before .before .before .before .before .before .before .before .pre .1 .0, c .before .before .before .before .before .before .before .before .before .before .before .before .before .pre .1 .1 .1))
+search-requires c κs =
+    let at-marks = c .before .before .before .before in
+    let at-link = at-marks .before in
+    let start = at-link .before .before .before .before .before .before .before .before in
+    (known _ _ _ _ (at-link .link .ensures) _ (start .pre .0) (at-marks .marks .given ∙ marks-long start), (start .pre .1 .0, start .pre .1 .1 .1))
 
 clear-requires : tie.Need-clear-requires
-clear-requires c κs = omega (arith, c .before .before .before .before .before .before .before .before .before .before .marks .given, marks-long (c .before .before .before .before .before .before .before .before .before .before .before .before .before .before .before .before .before .before .before), c .before .before .before .before .flags .given)
+clear-requires c κs =
+    let at-flags = c .before .before .before .before in
+    let at-marks = at-flags .before .before .before .before .before .before in
+    let back19 = at-marks .before .before .before .before .before .before .before .before .before in
+    omega (arith, at-marks .marks .given, marks-long back19, at-flags .flags .given)
 
 clear-requires-2 : tie.Need-clear-requires-2
-clear-requires-2 c κs = omega (arith, c .before .before .before .before .before .before .stack .given, c .before .before .before .before .before .before .before .before .before .before .before .before .before .before .before .before .before .before .before .before .before .before .before .pre .1 .1 .1, c .before .before .before .before .before .before .before .before .flags .given)
+clear-requires-2 c κs =
+    let at-stack = c .before .before .before .before .before .before in
+    let at-flags = at-stack .before .before in
+    let start = at-flags .before .before .before .before .before .before .before .before .before .before .before .before .before .before .before in
+    omega (arith, at-stack .stack .given, start .pre .1 .1 .1, at-flags .flags .given)
 
 same-length : tie.Need-same-length
-same-length c = search needs
+same-length c = c .before .before .before .before .before .before .before .before .before .before .before .before .search .kept .1 .1 .1 .1 .0
 
 same-length-2 : tie.Need-same-length-2
-same-length-2 c = search needs
+same-length-2 c =
+    let at-clear = c .before .before .before .before .before .before in
+    let at-link = at-clear .before .before .before .before .before .before .before .before .before .before .before .before in
+    at-clear .clear .kept .0 ∙ at-link .link .kept .1 .1 .0
 
 same-length-3 : tie.Need-same-length-3
-same-length-3 c = search needs
+same-length-3 c = c .before .before .clear2 .kept .0 ∙ c .before .before .before .before .before .before .before .before .before .before .before .before .search .kept .1 .1 .1 .1 .1 .0
 
 returns : tie.Need-returns
-returns c = (
-  c .before .before .before .before .before .before .before .before .before .before .before .before .search .ensures ∙ searched-same _ _ _ _ (c .before .before .before .before .before .before .before .before .before .before .before .before .before .before .before .before .before .before .link .ensures) (length (c .before .before .before .before .before .before .before .before .before .before .before .before .before .before .before .before .before .before .before .before .before .before .before .before .before .before .args .flags .now)) (c .before .before .before .before .before .before .before .before .before .before .before .before .before .before .before .before .before .before .before .before .before .before .before .before .before .before .args .ids .now),
-  (all-zeros _ _ _ (c .before .before .before .before .before .before .clear .ensures) (c .before .before .before .before .before .before .before .before .before .before .before .flags .given) (c .before .before .before .before .before .before .before .before .before .before .before .before .before .before .before .before .before .marks .given ∙ marks-long (c .before .before .before .before .before .before .before .before .before .before .before .before .before .before .before .before .before .before .before .before .before .before .before .before .before .before)), all-zeros _ _ _ (c .before .before .clear2 .ensures) (c .before .before .before .before .before .before .before .before .before .before .before .flags .given) (c .before .before .before .before .before .before .before .before .before .stack .given ∙ c .before .before .before .before .before .before .before .before .before .before .before .before .before .before .before .before .before .before .before .before .before .before .before .before .before .before .pre .1 .1 .1)),
-)
+returns c =
+    let at-clear = c .before .before .before .before .before .before in
+    let at-stack = at-clear .before .before .before in
+    let at-flags = at-stack .before .before in
+    let at-search = at-flags .before in
+    let at-marks = at-search .before .before .before .before .before in
+    let at-link = at-marks .before in
+    let start = at-link .before .before .before .before .before .before .before .before in (
+      at-search .search .ensures ∙ searched-same _ _ _ _ (at-link .link .ensures) (length (start .args .flags .now)) (start .args .ids .now),
+      (
+        all-zeros _ _ _ (at-clear .clear .ensures) (at-flags .flags .given) (at-marks .marks .given ∙ marks-long start),
+        all-zeros _ _ _ (c .before .before .clear2 .ensures) (at-flags .flags .given) (at-stack .stack .given ∙ start .pre .1 .1 .1),
+      ),
+    )
 
 pub write-spec : {M : Type 1} → statement M
 write-spec =

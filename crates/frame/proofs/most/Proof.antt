@@ -52,11 +52,14 @@ add-t16 c = search needs
 
 add-t17 : tie.Need-add-t17
 add-t17 c =
-    let a = (c .before .before .before .before .before .before .before .before .before .before .before .before .before .before .before) .args in
-    let p = (c .before .before .before .before .before .before .before .before .before .before .before .before .before .before .before) .pre in
+    let at-new-leaves = c .before .before .before .before .before .before in
+    let at-start-map = at-new-leaves .before .before .before .before in
+    let back15 = at-start-map .before .before .before .before .before in
+    let a = back15 .args in
+    let p = back15 .pre in
     let h = p .1 .1 .0 .2 in
-    let k = c .before .before .before .before .before .before .before .before .before .before .start-map .kept .1 .1 .0 ∙ part-long (a .counts2 .rows) (a .marks .now) h in
-    let w = leaves-few (a .rows2 .now) (a .counts2 .rows) (map-part (a .counts2 .rows) (a .marks .now) h (c .before .before .before .before .before .before .before .before .before .before .start-map .last .1 .1 .0) k) k (c .before .before .before .before .before .before .new-leaves .ensures) in
+    let k = at-start-map .start-map .kept .1 .1 .0 ∙ part-long (a .counts2 .rows) (a .marks .now) h in
+    let w = leaves-few (a .rows2 .now) (a .counts2 .rows) (map-part (a .counts2 .rows) (a .marks .now) h (at-start-map .start-map .last .1 .1 .0) k) k (at-new-leaves .new-leaves .ensures) in
     omega (arith, w, p .0 .inputs, p .1 .0 .rows)
 
 raised-requires : tie.Need-raised-requires
@@ -67,11 +70,18 @@ same-length c = search needs
 
 returns : tie.Need-returns
 returns c =
-    let a = (c .before .before .before .before .before .before .before .before .before .before .before .before .before .before .before .before) .args in
-    let h = (c .before .before .before .before .before .before .before .before .before .before .before .before .before .before .before .before) .pre .1 .1 .0 .2 in
-    let m = c .before .before .before .before .before .before .before .before .before .before .before .start-map .last .1 .1 .0 in
-    let k = c .before .before .before .before .before .before .before .before .before .before .before .start-map .kept .1 .1 .0 ∙ part-long (a .counts2 .rows) (a .marks .now) h in
-    (most-told (a .counts) (a .latches .now) (a .rows2 .now) (a .counts2) (a .marks .now) h (c .before .before .before .before .before .before .before .before .before .before .before .start-map .ensures) (map-part (a .counts2 .rows) (a .marks .now) h m k) (c .before .before .before .before .before .before .before .new-leaves .ensures) (c .raised .ensures), c .before .before .before .before .before .clear .ensures ∙ map-cleared (a .counts2 .rows) (a .marks .now) h m k)
+    let at-clear = c .before .before .before .before .before in
+    let at-new-leaves = at-clear .before .before in
+    let at-start-map = at-new-leaves .before .before .before .before in
+    let back16 = at-start-map .before .before .before .before .before in
+    let a = back16 .args in
+    let h = back16 .pre .1 .1 .0 .2 in
+    let m = at-start-map .start-map .last .1 .1 .0 in
+    let k = at-start-map .start-map .kept .1 .1 .0 ∙ part-long (a .counts2 .rows) (a .marks .now) h in (
+      most-told (a .counts) (a .latches .now) (a .rows2 .now) (a .counts2) (a .marks .now) h (at-start-map .start-map .ensures) (map-part (a .counts2 .rows) (a .marks .now) h m k)
+          (at-new-leaves .new-leaves .ensures) (c .raised .ensures),
+      at-clear .clear .ensures ∙ map-cleared (a .counts2 .rows) (a .marks .now) h m k,
+    )
 
 pub most-spec : {M : Type 1} → statement M
 most-spec =

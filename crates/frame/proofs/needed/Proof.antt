@@ -17,7 +17,10 @@ slice-relend-prefix-frame-of : tie.Need-slice-relend-prefix-frame-of
 slice-relend-prefix-frame-of c = search needs
 
 slice-aggregate-frame-of-3 : tie.Need-slice-aggregate-frame-of-3
-slice-aggregate-frame-of-3 c = let a = (c .before .before .before .before .before .before) .args in omega (arith, part-long (a .counts2 .rows) (a .marks .now) ((c .before .before .before .before .before .before) .pre .1 .1 .1 .0 .2))
+slice-aggregate-frame-of-3 c =
+    let back6 = c .before .before .before .before .before .before in
+    let a = back6 .args in
+    omega (arith, part-long (a .counts2 .rows) (a .marks .now) (back6 .pre .1 .1 .1 .0 .2))
 
 frame-of-requires : tie.Need-frame-of-requires
 frame-of-requires c κs =
@@ -36,10 +39,15 @@ same-length c = search needs
 
 returns : tie.Need-returns
 returns c =
-    let a = (c .before .before .before .before .before .before .before .before .before .before .before .before .before .before .before .before) .args in
-    let p = (c .before .before .before .before .before .before .before .before .before .before .before .before .before .before .before .before) .pre in
-    let k = part-long (a .counts2 .rows) (a .marks .now) (p .1 .1 .1 .0 .2) in
-    (need-told (a .counts) (a .latches .now) (a .rows2 .now) (a .counts2) (a .marks .now) (p .1 .1 .1 .0 .2) (c .before .before .before .before .before .before .before .before .before .frame-of .ensures) (c .raised .ensures), c .before .before .before .clear .ensures ∙ map-cleared (a .counts2 .rows) (a .marks .now) (p .1 .1 .1 .0 .2) (c .before .before .before .before .before .before .before .before .before .frame-of .last .1 .1 .1 .1 .1 .0) (c .before .before .before .before .before .before .before .before .before .frame-of .kept .1 .1 .1 .1 .1 .0 ∙ k))
+    let at-frame-of = c .before .before .before .before .before .before .before .before .before in
+    let back16 = at-frame-of .before .before .before .before .before .before .before in
+    let a = back16 .args in
+    let p = back16 .pre in
+    let k = part-long (a .counts2 .rows) (a .marks .now) (p .1 .1 .1 .0 .2) in (
+      need-told (a .counts) (a .latches .now) (a .rows2 .now) (a .counts2) (a .marks .now) (p .1 .1 .1 .0 .2) (at-frame-of .frame-of .ensures) (c .raised .ensures),
+      c .before .before .before .clear .ensures ∙ map-cleared (a .counts2 .rows) (a .marks .now) (p .1 .1 .1 .0 .2) (at-frame-of .frame-of .last .1 .1 .1 .1 .1 .0)
+          (at-frame-of .frame-of .kept .1 .1 .1 .1 .1 .0 ∙ k),
+    )
 
 pub needed-spec : {M : Type 1} → statement M
 needed-spec =

@@ -19,10 +19,14 @@ add-t7 : tie.Need-add-t7
 add-t7 c = omega (arith, (c .before .before .before .before .before .before .before .before) .pre .0 .sets, (c .before .before .before .before .before .before .before .before) .pre .1 .sets)
 
 add-t8 : tie.Need-add-t8
-add-t8 c = omega (arith, (c .before .before .before .before .before .before .before .before .before .before) .pre .0 .edges, (c .before .before .before .before .before .before .before .before .before .before) .pre .1 .edges)
+add-t8 c =
+    let back10 = c .before .before .before .before .before .before .before .before .before .before in
+    omega (arith, back10 .pre .0 .edges, back10 .pre .1 .edges)
 
 add-t9 : tie.Need-add-t9
-add-t9 c = omega (arith, (c .before .before .before .before .before .before .before .before .before .before .before .before) .pre .0 .fairness, (c .before .before .before .before .before .before .before .before .before .before .before .before) .pre .1 .fairness)
+add-t9 c =
+    let back12 = c .before .before .before .before .before .before .before .before .before .before .before .before in
+    omega (arith, back12 .pre .0 .fairness, back12 .pre .1 .fairness)
 
 returns : tie.Need-returns
 unfolding raised

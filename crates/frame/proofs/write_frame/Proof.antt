@@ -4,9 +4,8 @@ use native.Mathlib.Omega.{arith}
 use mathlib.Core.Path.{sym, ap, _∙_}
 use lib.ListN.{length}
 use Rattle.graph.specs.Graph.{Lent, lent}
-use Rattle.frame.specs.Call.{FrameRoom}
+use Rattle.frame.specs.Steps.{FrameRoom}
 use Rattle.frame.proofs.Ready.{addable, latches-within, from-words, few, lists-ready, part-long, map-part, map-cleared, marks-cover, marks-long, whole}
-use borrow.Author.Needs.{needs}
 use Rattle.frame.proofs.write_frame.Statement.{statement}
 use Rattle.frame.proofs.write_frame.Tie as tie
 
@@ -26,96 +25,154 @@ right c = c .pre
 
 slice-relend-prefix-frame-of : tie.Need-slice-relend-prefix-frame-of
 unfolding one other
-slice-relend-prefix-frame-of c = omega (arith, right (c .before .before .before .before .before .before .before .before .before .before .before .before .before .before .before .before .before .before .before .before .before .before) .ready .from .marked)
+slice-relend-prefix-frame-of c =
+    let back22 = c .before .before .before .before .before .before .before .before .before .before .before .before .before .before .before .before .before .before .before .before in
+    let back22 = back22 .before .before in
+    omega (arith, right back22 .ready .from .marked)
 
 slice-aggregate-frame-of : tie.Need-slice-aggregate-frame-of
 unfolding one other
-slice-aggregate-frame-of c = omega (arith, part-long ((c .before .before .before .before .before .before .before .before .before .before .before .before .before .before .before .before .before .before .before .before .before .before .before) .args .counts2 .rows) ((c .before .before .before .before .before .before .before .before .before .before .before .before .before .before .before .before .before .before .before .before .before .before .before) .args .marks .now) (right (c .before .before .before .before .before .before .before .before .before .before .before .before .before .before .before .before .before .before .before .before .before .before .before) .ready .from .marked))
+slice-aggregate-frame-of c =
+    let back23 = c .before .before .before .before .before .before .before .before .before .before .before .before .before .before .before .before .before .before .before .before in
+    let back23 = back23 .before .before .before in
+    omega (arith, part-long (back23 .args .counts2 .rows) (back23 .args .marks .now) (right back23 .ready .from .marked))
 
 frame-of-requires : tie.Need-frame-of-requires
 unfolding one other
 frame-of-requires c κs =
-    let a = (c .before .before .before .before .before .before .before .before .before .before .before .before .before .before .before .before .before .before .before .before .before .before .before) .args in
-    let r = right (c .before .before .before .before .before .before .before .before .before .before .before .before .before .before .before .before .before .before .before .before .before .before .before) .ready in
-    rw (part-long (a .counts2 .rows) (a .marks .now) (r .from .marked)) (r .from-formed .rows, ((r .from .rows .some, from-words (one (c .before .before .before .before .before .before .before .before .before .before .before .before .before .before .before .before .before .before .before .before .before .before .before)) (other (c .before .before .before .before .before .before .before .before .before .before .before .before .before .before .before .before .before .before .before .before .before .before .before)) _ r, few (one (c .before .before .before .before .before .before .before .before .before .before .before .before .before .before .before .before .before .before .before .before .before .before .before)) (other (c .before .before .before .before .before .before .before .before .before .before .before .before .before .before .before .before .before .before .before .before .before .before .before)) _ r), ((addable (one (c .before .before .before .before .before .before .before .before .before .before .before .before .before .before .before .before .before .before .before .before .before .before .before)) _ (r .target) .rows, addable (one (c .before .before .before .before .before .before .before .before .before .before .before .before .before .before .before .before .before .before .before .before .before .before .before)) _ (r .target) .inputs), latches-within (one (c .before .before .before .before .before .before .before .before .before .before .before .before .before .before .before .before .before .before .before .before .before .before .before)) (other (c .before .before .before .before .before .before .before .before .before .before .before .before .before .before .before .before .before .before .before .before .before .before .before)) _ r)))
+    let back23 = c .before .before .before .before .before .before .before .before .before .before .before .before .before .before .before .before .before .before .before .before in
+    let back23 = back23 .before .before .before in
+    let a = back23 .args in
+    let r = right back23 .ready in
+    rw (part-long (a .counts2 .rows) (a .marks .now) (r .from .marked)) (
+      r .from-formed .rows,
+      (
+        (r .from .rows .some, from-words (one back23) (other back23) _ r, few (one back23) (other back23) _ r),
+        ((addable (one back23) _ (r .target) .rows, addable (one back23) _ (r .target) .inputs), latches-within (one back23) (other back23) _ r),
+      ),
+    )
 
 slice-reshare-prefix-grow-lists : tie.Need-slice-reshare-prefix-grow-lists
 unfolding one other
 slice-reshare-prefix-grow-lists c =
-    let a = (c .before .before .before .before .before .before .before .before .before .before .before .before .before .before .before .before .before .before .before .before .before .before .before .before .before .before .before .before .before .before .before .before .before .before .before .before .before) .args in
-    let h = right (c .before .before .before .before .before .before .before .before .before .before .before .before .before .before .before .before .before .before .before .before .before .before .before .before .before .before .before .before .before .before .before .before .before .before .before .before .before) .ready .from .marked in
-    marks-cover (a .counts2 .rows) (a .marks .now) h (c .before .before .before .before .before .before .before .before .before .before .before .before .before .frame-of .last .1 .1 .1 .1 .1 .0) (c .before .before .before .before .before .before .before .before .before .before .before .before .before .frame-of .kept .1 .1 .1 .1 .1 .0 ∙ part-long (a .counts2 .rows) (a .marks .now) h)
+    let at-frame-of = c .before .before .before .before .before .before .before .before .before .before .before .before .before in
+    let back37 = at-frame-of .before .before .before .before .before .before .before .before .before .before .before .before .before .before .before .before .before .before .before .before in
+    let back37 = back37 .before .before .before .before in
+    let a = back37 .args in
+    let h = right back37 .ready .from .marked in
+    marks-cover (a .counts2 .rows) (a .marks .now) h (at-frame-of .frame-of .last .1 .1 .1 .1 .1 .0)
+    (at-frame-of .frame-of .kept .1 .1 .1 .1 .1 .0 ∙ part-long (a .counts2 .rows) (a .marks .now) h)
 
 slice-aggregate-grow-lists : tie.Need-slice-aggregate-grow-lists
 unfolding one other
 slice-aggregate-grow-lists c =
-    let a = (c .before .before .before .before .before .before .before .before .before .before .before .before .before .before .before .before .before .before .before .before .before .before .before .before .before .before .before .before .before .before .before .before .before .before .before .before .before .before) .args in
-    let h = right (c .before .before .before .before .before .before .before .before .before .before .before .before .before .before .before .before .before .before .before .before .before .before .before .before .before .before .before .before .before .before .before .before .before .before .before .before .before .before) .ready .from .marked in
-    let k = c .before .before .before .before .before .before .before .before .before .before .before .before .before .before .frame-of .kept .1 .1 .1 .1 .1 .0 ∙ part-long (a .counts2 .rows) (a .marks .now) h in
-    sym (ap length (map-part (a .counts2 .rows) (a .marks .now) h (c .before .before .before .before .before .before .before .before .before .before .before .before .before .before .frame-of .last .1 .1 .1 .1 .1 .0) k) ∙ k)
+    let at-frame-of = c .before .before .before .before .before .before .before .before .before .before .before .before .before .before in
+    let back38 = at-frame-of .before .before .before .before .before .before .before .before .before .before .before .before .before .before .before .before .before .before .before .before in
+    let back38 = back38 .before .before .before .before in
+    let a = back38 .args in
+    let h = right back38 .ready .from .marked in
+    let k = at-frame-of .frame-of .kept .1 .1 .1 .1 .1 .0 ∙ part-long (a .counts2 .rows) (a .marks .now) h in
+    sym (ap length (map-part (a .counts2 .rows) (a .marks .now) h (at-frame-of .frame-of .last .1 .1 .1 .1 .1 .0) k) ∙ k)
 
 grow-lists-requires : tie.Need-grow-lists-requires
 unfolding one other
 grow-lists-requires c κs =
-    let a = (c .before .before .before .before .before .before .before .before .before .before .before .before .before .before .before .before .before .before .before .before .before .before .before .before .before .before .before .before .before .before .before .before .before .before .before .before .before .before) .args in
-    let h = right (c .before .before .before .before .before .before .before .before .before .before .before .before .before .before .before .before .before .before .before .before .before .before .before .before .before .before .before .before .before .before .before .before .before .before .before .before .before .before) .ready .from .marked in
-    let m = c .before .before .before .before .before .before .before .before .before .before .before .before .before .before .frame-of .last .1 .1 .1 .1 .1 .0 in
-    let k = c .before .before .before .before .before .before .before .before .before .before .before .before .before .before .frame-of .kept .1 .1 .1 .1 .1 .0 ∙ part-long (a .counts2 .rows) (a .marks .now) h in
-    rw (map-part (a .counts2 .rows) (a .marks .now) h m k) (lists-ready (one (c .before .before .before .before .before .before .before .before .before .before .before .before .before .before .before .before .before .before .before .before .before .before .before .before .before .before .before .before .before .before .before .before .before .before .before .before .before .before)) (other (c .before .before .before .before .before .before .before .before .before .before .before .before .before .before .before .before .before .before .before .before .before .before .before .before .before .before .before .before .before .before .before .before .before .before .before .before .before .before)) _ (right (c .before .before .before .before .before .before .before .before .before .before .before .before .before .before .before .before .before .before .before .before .before .before .before .before .before .before .before .before .before .before .before .before .before .before .before .before .before .before) .ready) (right (c .before .before .before .before .before .before .before .before .before .before .before .before .before .before .before .before .before .before .before .before .before .before .before .before .before .before .before .before .before .before .before .before .before .before .before .before .before .before) .room) m k)
+    let at-frame-of = c .before .before .before .before .before .before .before .before .before .before .before .before .before .before in
+    let back38 = at-frame-of .before .before .before .before .before .before .before .before .before .before .before .before .before .before .before .before .before .before .before .before in
+    let back38 = back38 .before .before .before .before in
+    let a = back38 .args in
+    let h = right back38 .ready .from .marked in
+    let m = at-frame-of .frame-of .last .1 .1 .1 .1 .1 .0 in
+    let k = at-frame-of .frame-of .kept .1 .1 .1 .1 .1 .0 ∙ part-long (a .counts2 .rows) (a .marks .now) h in
+    rw (map-part (a .counts2 .rows) (a .marks .now) h m k) (lists-ready (one back38) (other back38) _ (right back38 .ready) (right back38 .room) m k)
 
 clear-requires : tie.Need-clear-requires
 unfolding one other
 clear-requires c κs =
-    let a = (c .before .before .before .before .before .before .before .before .before .before .before .before .before .before .before .before .before .before .before .before .before .before .before .before .before .before .before .before .before .before .before .before .before .before .before .before .before .before .before .before .before .before .before .before .before .before .before .before .before .before .before .before .before .before) .args in
-    let h = right (c .before .before .before .before .before .before .before .before .before .before .before .before .before .before .before .before .before .before .before .before .before .before .before .before .before .before .before .before .before .before .before .before .before .before .before .before .before .before .before .before .before .before .before .before .before .before .before .before .before .before .before .before .before .before) .ready .from .marked in
-    marks-cover (a .counts2 .rows) (a .marks .now) h (c .before .before .before .before .before .before .before .before .before .before .before .before .before .before .before .before .before .before .before .before .before .before .before .before .before .before .before .before .before .before .frame-of .last .1 .1 .1 .1 .1 .0) (c .before .before .before .before .before .before .before .before .before .before .before .before .before .before .before .before .before .before .before .before .before .before .before .before .before .before .before .before .before .before .frame-of .kept .1 .1 .1 .1 .1 .0 ∙ part-long (a .counts2 .rows) (a .marks .now) h)
+    let at-frame-of = c .before .before .before .before .before .before .before .before .before .before .before .before .before .before .before .before .before .before .before .before in
+    let at-frame-of = at-frame-of .before .before .before .before .before .before .before .before .before .before in
+    let back54 = at-frame-of .before .before .before .before .before .before .before .before .before .before .before .before .before .before .before .before .before .before .before .before in
+    let back54 = back54 .before .before .before .before in
+    let a = back54 .args in
+    let h = right back54 .ready .from .marked in
+    marks-cover (a .counts2 .rows) (a .marks .now) h (at-frame-of .frame-of .last .1 .1 .1 .1 .1 .0)
+    (at-frame-of .frame-of .kept .1 .1 .1 .1 .1 .0 ∙ part-long (a .counts2 .rows) (a .marks .now) h)
 
 raised-requires : tie.Need-raised-requires
 unfolding one other
-raised-requires c κs = let r = right (c .before .before .before .before .before .before .before .before .before .before .before .before .before .before .before .before .before .before .before .before .before .before .before .before .before .before .before .before .before .before .before .before .before .before .before .before .before .before .before .before .before .before .before .before .before .before .before .before .before .before .before .before .before .before .before .before .before) .ready in (addable (one (c .before .before .before .before .before .before .before .before .before .before .before .before .before .before .before .before .before .before .before .before .before .before .before .before .before .before .before .before .before .before .before .before .before .before .before .before .before .before .before .before .before .before .before .before .before .before .before .before .before .before .before .before .before .before .before .before .before)) _ (r .target), addable (other (c .before .before .before .before .before .before .before .before .before .before .before .before .before .before .before .before .before .before .before .before .before .before .before .before .before .before .before .before .before .before .before .before .before .before .before .before .before .before .before .before .before .before .before .before .before .before .before .before .before .before .before .before .before .before .before .before .before)) _ (r .from))
+raised-requires c κs =
+    let back57 = c .before .before .before .before .before .before .before .before .before .before .before .before .before .before .before .before .before .before .before .before in
+    let back57 = back57 .before .before .before .before .before .before .before .before .before .before .before .before .before .before .before .before .before .before .before .before in
+    let back57 = back57 .before .before .before .before .before .before .before .before .before .before .before .before .before .before .before .before .before in
+    let r = right back57 .ready in
+    (addable (one back57) _ (r .target), addable (other back57) _ (r .from))
 
 same-length : tie.Need-same-length
-same-length c = c .before .before .before .before .before .before .before .before .before .before .before .before .before .before .before .before .before .before .before .before .before .before .before .before .before .before .before .before .before .before .before .before .before .before .frame-of .kept .0
+same-length c =
+    let at-frame-of = c .before .before .before .before .before .before .before .before .before .before .before .before .before .before .before .before .before .before .before .before in
+    let at-frame-of = at-frame-of .before .before .before .before .before .before .before .before .before .before .before .before .before .before in
+    at-frame-of .frame-of .kept .0
 
 same-length-2 : tie.Need-same-length-2
-same-length-2 c = c .before .before .before .before .before .before .before .before .before .before .before .before .before .before .before .before .before .before .before .before .before .before .before .before .before .before .before .before .before .before .before .before .before .before .frame-of .kept .1 .0
+same-length-2 c =
+    let at-frame-of = c .before .before .before .before .before .before .before .before .before .before .before .before .before .before .before .before .before .before .before .before in
+    let at-frame-of = at-frame-of .before .before .before .before .before .before .before .before .before .before .before .before .before .before in
+    at-frame-of .frame-of .kept .1 .0
 
 same-length-3 : tie.Need-same-length-3
-same-length-3 c = search needs
+same-length-3 c = c .before .before .before .before .before .before .before .before .before .before .before .before .before .before .before .before .before .before .before .grow-lists .kept .0
 
 same-length-4 : tie.Need-same-length-4
-same-length-4 c = search needs
+same-length-4 c = c .before .before .before .before .before .before .before .before .before .before .before .before .before .before .before .before .before .before .before .grow-lists .kept .1 .0
 
 same-length-5 : tie.Need-same-length-5
-same-length-5 c = search needs
+same-length-5 c = c .before .before .before .before .before .before .before .before .before .before .before .before .before .before .before .before .before .before .before .grow-lists .kept .1 .1 .0
 
 same-length-6 : tie.Need-same-length-6
-same-length-6 c = search needs
+same-length-6 c =
+    let at-grow-lists = c .before .before .before .before .before .before .before .before .before .before .before .before .before .before .before .before .before .before .before in
+    at-grow-lists .grow-lists .kept .1 .1 .1 .0
 
 same-length-7 : tie.Need-same-length-7
-same-length-7 c = search needs
+same-length-7 c =
+    let at-grow-lists = c .before .before .before .before .before .before .before .before .before .before .before .before .before .before .before .before .before .before .before in
+    at-grow-lists .grow-lists .kept .1 .1 .1 .1 .0
 
 same-length-8 : tie.Need-same-length-8
-same-length-8 c = search needs
+same-length-8 c =
+    let at-grow-lists = c .before .before .before .before .before .before .before .before .before .before .before .before .before .before .before .before .before .before .before in
+    at-grow-lists .grow-lists .kept .1 .1 .1 .1 .1 .0
 
 same-length-9 : tie.Need-same-length-9
-same-length-9 c = search needs
+same-length-9 c =
+    let at-grow-lists = c .before .before .before .before .before .before .before .before .before .before .before .before .before .before .before .before .before .before .before in
+    at-grow-lists .grow-lists .kept .1 .1 .1 .1 .1 .1 .0
 
 same-length-10 : tie.Need-same-length-10
 unfolding one other
 same-length-10 c =
-    let a = (c .before .before .before .before .before .before .before .before .before .before .before .before .before .before .before .before .before .before .before .before .before .before .before .before .before .before .before .before .before .before .before .before .before .before .before .before .before .before .before .before .before .before .before .before .before .before .before .before .before .before .before .before .before .before .before .before .before .before) .args in
-    let h = right (c .before .before .before .before .before .before .before .before .before .before .before .before .before .before .before .before .before .before .before .before .before .before .before .before .before .before .before .before .before .before .before .before .before .before .before .before .before .before .before .before .before .before .before .before .before .before .before .before .before .before .before .before .before .before .before .before .before .before) .ready .from .marked in
-    let k = c .before .before .before .before .before .before .before .before .before .before .before .before .before .before .before .before .before .before .before .before .before .before .before .before .before .before .before .before .before .before .before .before .before .before .frame-of .kept .1 .1 .1 .1 .1 .0 ∙ part-long (a .counts2 .rows) (a .marks .now) h in
-    c .before .before .before .clear .kept .0 ∙ marks-long (a .counts2 .rows) (a .marks .now) h (c .before .before .before .before .before .before .before .before .before .before .before .before .before .before .before .before .before .before .before .before .before .before .before .before .before .before .before .before .before .before .before .before .before .before .frame-of .last .1 .1 .1 .1 .1 .0) k
+    let at-frame-of = c .before .before .before .before .before .before .before .before .before .before .before .before .before .before .before .before .before .before .before .before in
+    let at-frame-of = at-frame-of .before .before .before .before .before .before .before .before .before .before .before .before .before .before in
+    let back58 = at-frame-of .before .before .before .before .before .before .before .before .before .before .before .before .before .before .before .before .before .before .before .before in
+    let back58 = back58 .before .before .before .before in
+    let a = back58 .args in
+    let h = right back58 .ready .from .marked in
+    let k = at-frame-of .frame-of .kept .1 .1 .1 .1 .1 .0 ∙ part-long (a .counts2 .rows) (a .marks .now) h in
+    c .before .before .before .clear .kept .0 ∙ marks-long (a .counts2 .rows) (a .marks .now) h (at-frame-of .frame-of .last .1 .1 .1 .1 .1 .0) k
 
 returns : tie.Need-returns
 unfolding one other
 returns c =
-    let a = (c .before .before .before .before .before .before .before .before .before .before .before .before .before .before .before .before .before .before .before .before .before .before .before .before .before .before .before .before .before .before .before .before .before .before .before .before .before .before .before .before .before .before .before .before .before .before .before .before .before .before .before .before .before .before .before .before .before .before) .args in
-    let h = right (c .before .before .before .before .before .before .before .before .before .before .before .before .before .before .before .before .before .before .before .before .before .before .before .before .before .before .before .before .before .before .before .before .before .before .before .before .before .before .before .before .before .before .before .before .before .before .before .before .before .before .before .before .before .before .before .before .before .before) .ready .from .marked in
-    let k = c .before .before .before .before .before .before .before .before .before .before .before .before .before .before .before .before .before .before .before .before .before .before .before .before .before .before .before .before .before .before .before .before .before .before .frame-of .kept .1 .1 .1 .1 .1 .0 ∙ part-long (a .counts2 .rows) (a .marks .now) h in
-    (whole (one (c .before .before .before .before .before .before .before .before .before .before .before .before .before .before .before .before .before .before .before .before .before .before .before .before .before .before .before .before .before .before .before .before .before .before .before .before .before .before .before .before .before .before .before .before .before .before .before .before .before .before .before .before .before .before .before .before .before .before)) (other (c .before .before .before .before .before .before .before .before .before .before .before .before .before .before .before .before .before .before .before .before .before .before .before .before .before .before .before .before .before .before .before .before .before .before .before .before .before .before .before .before .before .before .before .before .before .before .before .before .before .before .before .before .before .before .before .before .before .before)) (a .marks .now) h (c .before .before .before .before .before .before .before .before .before .before .before .before .before .before .before .before .before .before .before .before .before .before .before .before .before .before .before .before .before .before .before .before .before .before .frame-of .ensures) (c .before .before .before .before .before .before .before .before .before .before .before .before .before .before .before .before .before .before .before .grow-lists .ensures) (c .raised .ensures), c .before .before .before .clear .ensures ∙ map-cleared (a .counts2 .rows) (a .marks .now) h (c .before .before .before .before .before .before .before .before .before .before .before .before .before .before .before .before .before .before .before .before .before .before .before .before .before .before .before .before .before .before .before .before .before .before .frame-of .last .1 .1 .1 .1 .1 .0) k)
+    let at-grow-lists = c .before .before .before .before .before .before .before .before .before .before .before .before .before .before .before .before .before .before .before in
+    let at-frame-of = at-grow-lists .before .before .before .before .before .before .before .before .before .before .before .before .before .before .before in
+    let back58 = at-frame-of .before .before .before .before .before .before .before .before .before .before .before .before .before .before .before .before .before .before .before .before in
+    let back58 = back58 .before .before .before .before in
+    let a = back58 .args in
+    let h = right back58 .ready .from .marked in
+    let k = at-frame-of .frame-of .kept .1 .1 .1 .1 .1 .0 ∙ part-long (a .counts2 .rows) (a .marks .now) h in (
+      whole (one back58) (other back58) (a .marks .now) h (at-frame-of .frame-of .ensures) (at-grow-lists .grow-lists .ensures) (c .raised .ensures),
+      c .before .before .before .clear .ensures ∙ map-cleared (a .counts2 .rows) (a .marks .now) h (at-frame-of .frame-of .last .1 .1 .1 .1 .1 .0) k,
+    )
 
 pub write-frame-spec : {M : Type 1} → statement M
 write-frame-spec =

@@ -24,32 +24,52 @@ is-done-requires : tie.Need-is-done-requires
 is-done-requires c κs = search needs
 
 same-length : tie.Need-same-length
-same-length c = search needs
+same-length c = c .before .before .before .before .check-two .kept .1 .1 .1 .1 .1 .1 .1 .1 .1 .1 .1 .1 .1 .1 .1 .1 .1 .1 .1 .1 .0
 
 returns : tie.Need-returns
 unfolding one other
-returns c = check-stops (one (c .before .before .before .before .before .before .before .before .before .before .before .before .before .before .before .before .before .before .before .before .before .before .before .before .before)) (other (c .before .before .before .before .before .before .before .before .before .before .before .before .before .before .before .before .before .before .before .before .before .before .before .before .before)) (c .before .before .before .before .before .before .before .before .before .before .before .before .before .before .before .before .before .before .before .before .before .before .before .before .before .args .marks .now) (c .before .before .before .before .check-two .result) (c .before .before .before .before .check-two .ensures) (c .before .is-done .ensures) (c .if1 .taken)
+returns c =
+    let at-check-two = c .before .before .before .before in
+    let start = at-check-two .before .before .before .before .before .before .before .before .before .before .before .before .before .before .before .before .before .before .before .before in
+    let start = start .before in
+    check-stops (one start) (other start) (start .args .marks .now) (at-check-two .check-two .result) (at-check-two .check-two .ensures) (c .before .is-done .ensures) (c .if1 .taken)
 
 sum-requires : tie.Need-sum-requires
 unfolding one other
-sum-requires c κs = both-addable (one (c .before .before .before .before .before .before .before .before .before .before .before .before .before .before .before .before .before .before .before .before .before .before .before .before .before)) (other (c .before .before .before .before .before .before .before .before .before .before .before .before .before .before .before .before .before .before .before .before .before .before .before .before .before)) (c .before .before .before .before .before .before .before .before .before .before .before .before .before .before .before .before .before .before .before .before .before .before .before .before .before .args .marks .now) (c .before .before .before .before .check-two .result) (c .before .before .before .before .check-two .ensures) (c .before .is-done .ensures) (c .if1 .left)
+sum-requires c κs =
+    let at-check-two = c .before .before .before .before in
+    let start = at-check-two .before .before .before .before .before .before .before .before .before .before .before .before .before .before .before .before .before .before .before .before in
+    let start = start .before in
+    both-addable (one start) (other start) (start .args .marks .now) (at-check-two .check-two .result) (at-check-two .check-two .ensures) (c .before .is-done .ensures) (c .if1 .left)
 
-has-room-requires : tie.Need-has-room-requires
-has-room-requires c κs = search needs
+fits-requires : tie.Need-fits-requires
+fits-requires c κs = search needs
 
 same-length-2 : tie.Need-same-length-2
-same-length-2 c = search needs
+same-length-2 c = c .before .before .before .before .before .before .before .check-two .kept .1 .1 .1 .1 .1 .1 .1 .1 .1 .1 .1 .1 .1 .1 .1 .1 .1 .1 .1 .1 .0
 
 returns-2 : tie.Need-returns-2
 unfolding one other
-returns-2 c = check-room (one (c .before .before .before .before .before .before .before .before .before .before .before .before .before .before .before .before .before .before .before .before .before .before .before .before .before .before .before .before)) (other (c .before .before .before .before .before .before .before .before .before .before .before .before .before .before .before .before .before .before .before .before .before .before .before .before .before .before .before .before)) (c .before .before .before .before .before .before .before .before .before .before .before .before .before .before .before .before .before .before .before .before .before .before .before .before .before .before .before .before .args .marks .now) (c .before .before .before .before .before .before .before .check-two .result) (c .before .before .before .before .before .before .before .check-two .ensures) (c .before .before .before .before .is-done .ensures) (c .before .before .before .if1 .left) (rw (c .before .before .sum .ensures) at (sym (c .before .has-room .ensures) ∙ c .if2 .taken))
+returns-2 c =
+    let at-is-done = c .before .before .before .before in
+    let at-check-two = at-is-done .before .before .before in
+    let start = at-check-two .before .before .before .before .before .before .before .before .before .before .before .before .before .before .before .before .before .before .before .before in
+    let start = start .before in
+    check-room (one start) (other start) (start .args .marks .now) (at-check-two .check-two .result) (at-check-two .check-two .ensures) (at-is-done .is-done .ensures)
+    (c .before .before .before .if1 .left) (rw (c .before .before .sum .ensures) at (sym (c .before .fits2 .ensures) ∙ c .if2 .taken))
 
 same-length-3 : tie.Need-same-length-3
-same-length-3 c = search needs
+same-length-3 c = c .before .before .before .before .before .before .before .check-two .kept .1 .1 .1 .1 .1 .1 .1 .1 .1 .1 .1 .1 .1 .1 .1 .1 .1 .1 .1 .1 .0
 
 returns-3 : tie.Need-returns-3
 unfolding one other
-returns-3 c = check-full (one (c .before .before .before .before .before .before .before .before .before .before .before .before .before .before .before .before .before .before .before .before .before .before .before .before .before .before .before .before)) (other (c .before .before .before .before .before .before .before .before .before .before .before .before .before .before .before .before .before .before .before .before .before .before .before .before .before .before .before .before)) (c .before .before .before .before .before .before .before .before .before .before .before .before .before .before .before .before .before .before .before .before .before .before .before .before .before .before .before .before .args .marks .now) (c .before .before .before .before .before .before .before .check-two .result) (c .before .before .before .before .before .before .before .check-two .ensures) (c .before .before .before .before .is-done .ensures) (c .before .before .before .if1 .left) (rw (c .before .before .sum .ensures) at (sym (c .before .has-room .ensures) ∙ c .if2 .left))
+returns-3 c =
+    let at-is-done = c .before .before .before .before in
+    let at-check-two = at-is-done .before .before .before in
+    let start = at-check-two .before .before .before .before .before .before .before .before .before .before .before .before .before .before .before .before .before .before .before .before in
+    let start = start .before in
+    check-full (one start) (other start) (start .args .marks .now) (at-check-two .check-two .result) (at-check-two .check-two .ensures) (at-is-done .is-done .ensures)
+    (c .before .before .before .if1 .left) (rw (c .before .before .sum .ensures) at (sym (c .before .fits2 .ensures) ∙ c .if2 .left))
 
 pub checked-spec : {M : Type 1} → statement M
 checked-spec =
@@ -60,7 +80,7 @@ checked-spec =
     same-length
     returns
     sum-requires
-    has-room-requires
+    fits-requires
     same-length-2
     returns-2
     same-length-3

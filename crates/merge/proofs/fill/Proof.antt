@@ -5,7 +5,7 @@ use native.Mathlib.Omega.{arith}
 use native.Mathlib.Nat.{le-antisymm}
 use mathlib.Core.Path.{_≡_, refl}
 use lib.ListN.{length}
-use Rattle.renumber.specs.Writing.{written}
+use Rattle.output.specs.Writing.{written}
 use Rattle.merge.proofs.Ready.{filled-turn}
 use Rattle.merge.specs.Merge.{shifted}
 use borrow.Author.Needs.{needs}
@@ -38,7 +38,12 @@ loop-less : tie.Need-loop-less Inv-loop μ-loop
 loop-less c = search needs
 
 loop-again : tie.Need-loop-again Inv-loop μ-loop
-loop-again c = (search needs, search needs, filled-turn (shifted (c .before .before .before .before .args .by)) (c .before .before .before .before .args .map .now) (c .before .before .loop .i) (c .before .before .loop .inv .2) (c .shifted .ensures))
+loop-again c = (
+  search needs,
+  search needs,
+  filled-turn (shifted (c .before .before .before .before .args .by)) (c .before .before .before .before .args .map .now) (c .before .before .loop .i) (c .before .before .loop .inv .2)
+      (c .shifted .ensures),
+)
 
 same-length : tie.Need-same-length Inv-loop μ-loop
 same-length c = search needs

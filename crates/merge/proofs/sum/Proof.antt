@@ -23,19 +23,29 @@ add-t7 : tie.Need-add-t7
 add-t7 c = search needs
 
 add-t8 : tie.Need-add-t8
-add-t8 c = omega (arith, c .before .before .before .before .before .before .before .before .before .before .pre .0 .bads, c .before .before .before .before .before .before .before .before .before .before .pre .1 .bads)
+add-t8 c =
+    let start = c .before .before .before .before .before .before .before .before .before .before in
+    omega (arith, start .pre .0 .bads, start .pre .1 .bads)
 
 add-t9 : tie.Need-add-t9
-add-t9 c = omega (arith, c .before .before .before .before .before .before .before .before .before .before .before .before .pre .0 .outputs, c .before .before .before .before .before .before .before .before .before .before .before .before .pre .1 .outputs)
+add-t9 c =
+    let start = c .before .before .before .before .before .before .before .before .before .before .before .before in
+    omega (arith, start .pre .0 .outputs, start .pre .1 .outputs)
 
 add-t10 : tie.Need-add-t10
-add-t10 c = omega (arith, c .before .before .before .before .before .before .before .before .before .before .before .before .before .before .pre .0 .sets, c .before .before .before .before .before .before .before .before .before .before .before .before .before .before .pre .1 .sets)
+add-t10 c =
+    let start = c .before .before .before .before .before .before .before .before .before .before .before .before .before .before in
+    omega (arith, start .pre .0 .sets, start .pre .1 .sets)
 
 add-t11 : tie.Need-add-t11
-add-t11 c = omega (arith, c .before .before .before .before .before .before .before .before .before .before .before .before .before .before .before .before .pre .0 .edges, c .before .before .before .before .before .before .before .before .before .before .before .before .before .before .before .before .pre .1 .edges)
+add-t11 c =
+    let start = c .before .before .before .before .before .before .before .before .before .before .before .before .before .before .before .before in
+    omega (arith, start .pre .0 .edges, start .pre .1 .edges)
 
 add-t12 : tie.Need-add-t12
-add-t12 c = omega (arith, c .before .before .before .before .before .before .before .before .before .before .before .before .before .before .before .before .before .before .pre .0 .fairness, c .before .before .before .before .before .before .before .before .before .before .before .before .before .before .before .before .before .before .pre .1 .fairness)
+add-t12 c =
+    let start = c .before .before .before .before .before .before .before .before .before .before .before .before .before .before .before .before .before .before in
+    omega (arith, start .pre .0 .fairness, start .pre .1 .fairness)
 
 returns : tie.Need-returns
 unfolding summed

@@ -5,9 +5,9 @@ use native.Mathlib.Omega.{arith}
 use native.Mathlib.Nat.{le-antisymm}
 use mathlib.Core.Path.{_≡_, refl}
 use lib.ListN.{length}
-use Rattle.renumber.specs.Writing.{written}
+use Rattle.output.specs.Writing.{written}
 use Rattle.renumber.specs.Renumber.{edgesOf}
-use Rattle.renumber.proofs.Writing.{written-turn}
+use Rattle.output.proofs.Writing.{written-turn}
 use Rattle.merge.specs.Merge.{shifted}
 use borrow.Author.Needs.{needs}
 use Rattle.merge.proofs.write_rows.Statement.{statement}

@@ -2,7 +2,7 @@
 -- Assumes nothing.
 use mathlib.Core.Path.{_∙_}
 use Rattle.record_unroll.specs.Call.{unrollWith, unrollRefused}
-use Rattle.record_bridge.proofs.Bridging.{first-not-full, second-not-full, both-full}
+use Rattle.record_bridge.proofs.Meaning.{first-not-full, second-not-full, both-full}
 use borrow.Author.Needs.{needs}
 use Rattle.record_bridge.proofs.unroll.Statement.{statement}
 use Rattle.record_bridge.proofs.unroll.Tie as tie
@@ -12,16 +12,28 @@ mul-if1 c = search needs
 
 returns : tie.Need-returns
 returns c =
-    let a = c .before .before .before .before .before .before .before .before .before .before .before .before .before .before .before .before .before .before .before .before .before .before .args in
-    first-not-full (unrollWith (a .rows .now) (a .inputs .now) (a .constraints .now) (a .bads .now) (a .outputs .now) (a .ends .now) (a .edges .now) (a .fairness .now) (a .counts) (a .rows2 .now) (a .inputs2 .now) (a .constraints2 .now) (a .bads2 .now) (a .outputs2 .now) (a .ends2 .now) (a .edges2 .now) (a .fairness2 .now) (a .counts2) (a .marks .now)) (unrollRefused (a .rows .now) (a .inputs .now) (a .constraints .now) (a .bads .now) (a .outputs .now) (a .ends .now) (a .edges .now) (a .fairness .now) (a .counts) (a .marks .now)) (a .latches .now) (a .words .now) (a .latches2 .now) (a .words2 .now) (c .if1 .taken)
+    let start = c .before .before .before .before .before .before .before .before .before .before .before .before .before .before .before .before .before .before .before .before in
+    let start = start .before .before in
+    let a = start .args in
+    first-not-full
+    (unrollWith (a .rows .now) (a .inputs .now) (a .constraints .now) (a .bads .now) (a .outputs .now) (a .ends .now) (a .edges .now) (a .fairness .now) (a .counts) (a .rows2 .now)
+    (a .inputs2 .now) (a .constraints2 .now) (a .bads2 .now) (a .outputs2 .now) (a .ends2 .now) (a .edges2 .now) (a .fairness2 .now) (a .counts2) (a .marks .now))
+    (unrollRefused (a .rows .now) (a .inputs .now) (a .constraints .now) (a .bads .now) (a .outputs .now) (a .ends .now) (a .edges .now) (a .fairness .now) (a .counts) (a .marks .now))
+    (a .latches .now) (a .words .now) (a .latches2 .now) (a .words2 .now) (c .if1 .taken)
 
 mul-if2 : tie.Need-mul-if2
 mul-if2 c = search needs
 
 returns-2 : tie.Need-returns-2
 returns-2 c =
-    let a = c .before .before .before .before .before .before .before .before .before .before .before .before .before .before .before .before .before .before .before .before .before .before .before .args in
-    second-not-full (unrollWith (a .rows .now) (a .inputs .now) (a .constraints .now) (a .bads .now) (a .outputs .now) (a .ends .now) (a .edges .now) (a .fairness .now) (a .counts) (a .rows2 .now) (a .inputs2 .now) (a .constraints2 .now) (a .bads2 .now) (a .outputs2 .now) (a .ends2 .now) (a .edges2 .now) (a .fairness2 .now) (a .counts2) (a .marks .now)) (unrollRefused (a .rows .now) (a .inputs .now) (a .constraints .now) (a .bads .now) (a .outputs .now) (a .ends .now) (a .edges .now) (a .fairness .now) (a .counts) (a .marks .now)) (a .latches .now) (a .words .now) (a .latches2 .now) (a .words2 .now) (c .before .if1 .left) (c .if2 .taken)
+    let start = c .before .before .before .before .before .before .before .before .before .before .before .before .before .before .before .before .before .before .before .before in
+    let start = start .before .before .before in
+    let a = start .args in
+    second-not-full
+    (unrollWith (a .rows .now) (a .inputs .now) (a .constraints .now) (a .bads .now) (a .outputs .now) (a .ends .now) (a .edges .now) (a .fairness .now) (a .counts) (a .rows2 .now)
+    (a .inputs2 .now) (a .constraints2 .now) (a .bads2 .now) (a .outputs2 .now) (a .ends2 .now) (a .edges2 .now) (a .fairness2 .now) (a .counts2) (a .marks .now))
+    (unrollRefused (a .rows .now) (a .inputs .now) (a .constraints .now) (a .bads .now) (a .outputs .now) (a .ends .now) (a .edges .now) (a .fairness .now) (a .counts) (a .marks .now))
+    (a .latches .now) (a .words .now) (a .latches2 .now) (a .words2 .now) (c .before .if1 .left) (c .if2 .taken)
 
 unroll-tables-requires : tie.Need-unroll-tables-requires
 unroll-tables-requires c κs = search needs
@@ -64,8 +76,18 @@ same-length-12 c = search needs
 
 returns-3 : tie.Need-returns-3
 returns-3 c =
-    let a = c .before .before .before .before .before .before .before .before .before .before .before .before .before .before .before .before .before .before .before .before .before .before .before .before .before .before .before .before .before .before .before .before .before .before .before .before .before .before .before .before .before .before .before .before .before .before .before .before .before .before .before .before .before .before .before .before .before .before .before .before .args in
-    c .before .before .before .before .before .before .before .before .before .before .before .before .before .before .before .before .before .before .before .before .before .before .before .before .unroll-tables .ensures ∙ both-full (unrollWith (a .rows .now) (a .inputs .now) (a .constraints .now) (a .bads .now) (a .outputs .now) (a .ends .now) (a .edges .now) (a .fairness .now) (a .counts) (a .rows2 .now) (a .inputs2 .now) (a .constraints2 .now) (a .bads2 .now) (a .outputs2 .now) (a .ends2 .now) (a .edges2 .now) (a .fairness2 .now) (a .counts2) (a .marks .now)) (unrollRefused (a .rows .now) (a .inputs .now) (a .constraints .now) (a .bads .now) (a .outputs .now) (a .ends .now) (a .edges .now) (a .fairness .now) (a .counts) (a .marks .now)) (a .latches .now) (a .words .now) (a .latches2 .now) (a .words2 .now) (c .before .before .before .before .before .before .before .before .before .before .before .before .before .before .before .before .before .before .before .before .before .before .before .before .before .before .before .before .before .before .before .before .before .before .before .before .before .before .if1 .left) (c .before .before .before .before .before .before .before .before .before .before .before .before .before .before .before .before .before .before .before .before .before .before .before .before .before .before .before .before .before .before .before .before .before .before .before .before .before .if2 .left)
+    let at-unroll-tables = c .before .before .before .before .before .before .before .before .before .before .before .before .before .before .before .before .before .before .before .before in
+    let at-unroll-tables = at-unroll-tables .before .before .before .before in
+    let at-if2 = at-unroll-tables .before .before .before .before .before .before .before .before .before .before .before .before .before in
+    let at-if1 = at-if2 .before in
+    let start = at-if1 .before .before .before .before .before .before .before .before .before .before .before .before .before .before .before .before .before .before .before .before in
+    let start = start .before .before in
+    let a = start .args in
+    at-unroll-tables .unroll-tables .ensures ∙ both-full
+    (unrollWith (a .rows .now) (a .inputs .now) (a .constraints .now) (a .bads .now) (a .outputs .now) (a .ends .now) (a .edges .now) (a .fairness .now) (a .counts) (a .rows2 .now)
+    (a .inputs2 .now) (a .constraints2 .now) (a .bads2 .now) (a .outputs2 .now) (a .ends2 .now) (a .edges2 .now) (a .fairness2 .now) (a .counts2) (a .marks .now))
+    (unrollRefused (a .rows .now) (a .inputs .now) (a .constraints .now) (a .bads .now) (a .outputs .now) (a .ends .now) (a .edges .now) (a .fairness .now) (a .counts) (a .marks .now))
+    (a .latches .now) (a .words .now) (a .latches2 .now) (a .words2 .now) (at-if1 .if1 .left) (at-if2 .if2 .left)
 
 pub unroll-spec : {M : Type 1} → statement M
 unroll-spec =

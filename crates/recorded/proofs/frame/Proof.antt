@@ -35,13 +35,22 @@ say-requires : tie.Need-say-requires
 say-requires c κs = search needs
 
 same-length : tie.Need-same-length
-same-length c = c .before .before .before .before .before .before .before .before .before .before .before .before .before .before .before .before .before .before .before .before .before .before .before .before .before .before .before .before .before .before .before .before .before .through-records .kept .0
+same-length c =
+    let at-through-records = c .before .before .before .before .before .before .before .before .before .before .before .before .before .before .before .before .before .before .before .before in
+    let at-through-records = at-through-records .before .before .before .before .before .before .before .before .before .before .before .before .before in
+    at-through-records .through-records .kept .0
 
 same-length-2 : tie.Need-same-length-2
-same-length-2 c = c .before .before .before .before .before .before .before .before .before .before .before .before .before .before .before .before .before .before .before .before .before .before .before .before .before .before .before .before .before .before .before .before .before .through-records .kept .1 .0
+same-length-2 c =
+    let at-through-records = c .before .before .before .before .before .before .before .before .before .before .before .before .before .before .before .before .before .before .before .before in
+    let at-through-records = at-through-records .before .before .before .before .before .before .before .before .before .before .before .before .before in
+    at-through-records .through-records .kept .1 .0
 
 same-length-3 : tie.Need-same-length-3
-same-length-3 c = c .before .before .before .before .before .before .before .before .before .before .before .before .before .before .before .before .before .before .before .before .before .before .before .before .before .before .before .before .before .before .before .before .before .through-records .kept .1 .1 .0
+same-length-3 c =
+    let at-through-records = c .before .before .before .before .before .before .before .before .before .before .before .before .before .before .before .before .before .before .before .before in
+    let at-through-records = at-through-records .before .before .before .before .before .before .before .before .before .before .before .before .before in
+    at-through-records .through-records .kept .1 .1 .0
 
 same-length-4 : tie.Need-same-length-4
 same-length-4 c = search needs

@@ -9,7 +9,8 @@ use Rattle.recorded.proofs.frames.Tie as tie
 
 abbrev Inv-loop : tie.InvT-loop
 Inv-loop name rows₀ inputs₀ latches₀ flat-rows₀ flat-inputs₀ flat-latches₀ rows2 inputs2 latches2 counts2 both₀ k₀ rows inputs latches flat-rows flat-inputs flat-latches both k =
-    (k ≤ 4) × (length rows ≡ length rows₀) × (length inputs ≡ length inputs₀) × (length latches ≡ length latches₀) × (length flat-rows ≡ length flat-rows₀) × (length flat-inputs ≡ length flat-inputs₀) × (length flat-latches ≡ length flat-latches₀)
+    (k ≤ 4) × (length rows ≡ length rows₀) × (length inputs ≡ length inputs₀) × (length latches ≡ length latches₀) × (length flat-rows ≡ length flat-rows₀) ×
+    (length flat-inputs ≡ length flat-inputs₀) × (length flat-latches ≡ length flat-latches₀)
 
 abbrev μ-loop : tie.MeasureT-loop
 μ-loop name rows₀ inputs₀ latches₀ flat-rows₀ flat-inputs₀ flat-latches₀ rows2 inputs2 latches2 counts2 both₀ k₀ rows inputs latches flat-rows flat-inputs flat-latches both k = 4 - k
@@ -27,7 +28,21 @@ loop-less : tie.Need-loop-less Inv-loop μ-loop
 loop-less c = search needs
 
 loop-again : tie.Need-loop-again Inv-loop μ-loop
-loop-again c = (search needs, c .before .before .before .before .before .before .before .before .before .before .before .before .frame .kept .1 .1 .0 ∙ c .before .before .before .before .before .before .before .before .before .before .before .before .before .before .before .before .before .before .before .before .loop .inv .1, c .before .before .before .before .before .before .before .before .before .before .before .before .frame .kept .1 .1 .1 .0 ∙ c .before .before .before .before .before .before .before .before .before .before .before .before .before .before .before .before .before .before .before .before .loop .inv .2, c .before .before .before .before .before .before .before .before .before .before .before .before .frame .kept .1 .1 .1 .1 .0 ∙ c .before .before .before .before .before .before .before .before .before .before .before .before .before .before .before .before .before .before .before .before .loop .inv .3, c .before .before .before .before .before .before .before .before .before .before .before .before .frame .kept .1 .1 .1 .1 .1 .0 ∙ c .before .before .before .before .before .before .before .before .before .before .before .before .before .before .before .before .before .before .before .before .loop .inv .4, c .before .before .before .before .before .before .before .before .before .before .before .before .frame .kept .1 .1 .1 .1 .1 .1 .0 ∙ c .before .before .before .before .before .before .before .before .before .before .before .before .before .before .before .before .before .before .before .before .loop .inv .5, c .before .before .before .before .before .before .before .before .before .before .before .before .frame .kept .1 .1 .1 .1 .1 .1 .1 .0 ∙ c .before .before .before .before .before .before .before .before .before .before .before .before .before .before .before .before .before .before .before .before .loop .inv .6)
+loop-again c = (
+  search needs,
+  c .before .before .before .before .before .before .before .before .before .before .before .before .frame .kept .1 .1 .0 ∙ c .before .before .before .before .before .before .before .before
+      .before .before .before .before .before .before .before .before .before .before .before .before .loop .inv .1,
+  c .before .before .before .before .before .before .before .before .before .before .before .before .frame .kept .1 .1 .1 .0 ∙ c .before .before .before .before .before .before .before .before
+      .before .before .before .before .before .before .before .before .before .before .before .before .loop .inv .2,
+  c .before .before .before .before .before .before .before .before .before .before .before .before .frame .kept .1 .1 .1 .1 .0 ∙ c .before .before .before .before .before .before .before
+      .before .before .before .before .before .before .before .before .before .before .before .before .before .loop .inv .3,
+  c .before .before .before .before .before .before .before .before .before .before .before .before .frame .kept .1 .1 .1 .1 .1 .0 ∙ c .before .before .before .before .before .before .before
+      .before .before .before .before .before .before .before .before .before .before .before .before .before .loop .inv .4,
+  c .before .before .before .before .before .before .before .before .before .before .before .before .frame .kept .1 .1 .1 .1 .1 .1 .0 ∙ c .before .before .before .before .before .before
+      .before .before .before .before .before .before .before .before .before .before .before .before .before .before .loop .inv .5,
+  c .before .before .before .before .before .before .before .before .before .before .before .before .frame .kept .1 .1 .1 .1 .1 .1 .1 .0 ∙ c .before .before .before .before .before .before
+      .before .before .before .before .before .before .before .before .before .before .before .before .before .before .loop .inv .6,
+)
 
 same-length : tie.Need-same-length Inv-loop μ-loop
 same-length c = c .before .loop .inv .1

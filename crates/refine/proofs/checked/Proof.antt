@@ -13,11 +13,6 @@ graph c =
     let a = c .args in
     lent (a .rows .now) (a .inputs .now) (a .latches .now) (a .constraints .now) (a .bads .now) (a .outputs .now) (a .ends .now) (a .edges .now) (a .fairness .now) (a .counts)
 
-out : tie.Start → Lent
-out c =
-    let a = c .args in
-    lent (a .rows2 .now) (a .inputs2 .now) (a .latches2 .now) (a .constraints2 .now) (a .bads2 .now) (a .outputs2 .now) (a .ends2 .now) (a .edges2 .now) (a .fairness2 .now) (a .counts)
-
 asked-requires : tie.Need-asked-requires
 asked-requires c κs = search needs
 
@@ -25,46 +20,107 @@ is-done-requires : tie.Need-is-done-requires
 is-done-requires c κs = search needs
 
 same-length : tie.Need-same-length
-same-length c = search needs
+same-length c = c .before .before .before .before .asked .kept .1 .1 .1 .1 .1 .1 .1 .1 .1 .1 .1 .1 .0
 
 returns : tie.Need-returns
-unfolding graph out
-returns c = checked-refused (graph (c .before .before .before .before .before .before .before .before .before .before .before .before .before .before .before .before .before .before .before .before .before .before .before .before .before)) (out (c .before .before .before .before .before .before .before .before .before .before .before .before .before .before .before .before .before .before .before .before .before .before .before .before .before)) (c .before .before .before .before .before .before .before .before .before .before .before .before .before .before .before .before .before .before .before .before .before .before .before .before .before .args .old) (c .before .before .before .before .before .before .before .before .before .before .before .before .before .before .before .before .before .before .before .before .before .before .before .before .before .args .marks .now) (c .before .before .before .before .asked .result) (c .before .before .before .before .asked .ensures) (c .before .is-done .ensures) (c .if1 .taken)
+unfolding graph
+returns c =
+    let at-asked = c .before .before .before .before in
+    let start = at-asked .before .before .before .before .before .before .before .before .before .before .before .before in
+    checked-refused (graph start) (start .args .room) (start .args .old) (start .args .marks .now) (at-asked .asked .result) (at-asked .asked .ensures) (c .before .is-done .ensures)
+    (c .if1 .taken)
 
 slice-relend-prefix-number-kept : tie.Need-slice-relend-prefix-number-kept
-unfolding graph out
-slice-relend-prefix-number-kept c = lending (graph (c .before .before .before .before .before .before .before .before .before .before .before .before .before .before .before .before .before .before .before .before .before .before .before .before .before)) (out (c .before .before .before .before .before .before .before .before .before .before .before .before .before .before .before .before .before .before .before .before .before .before .before .before .before)) (c .before .before .before .before .before .before .before .before .before .before .before .before .before .before .before .before .before .before .before .before .before .before .before .before .before .args .old) (c .before .before .before .before .before .before .before .before .before .before .before .before .before .before .before .before .before .before .before .before .before .before .before .before .before .args .marks .now) (c .before .before .before .before .asked .result) (c .before .before .before .before .asked .ensures) (c .before .is-done .ensures) (c .if1 .left) .long
+unfolding graph
+slice-relend-prefix-number-kept c =
+    let at-asked = c .before .before .before .before in
+    let start = at-asked .before .before .before .before .before .before .before .before .before .before .before .before in
+    lending (graph start) (start .args .room) (start .args .old) (start .args .marks .now) (at-asked .asked .result) (at-asked .asked .ensures) (c .before .is-done .ensures) (c .if1 .left)
+    .long
 
 slice-aggregate-number-kept : tie.Need-slice-aggregate-number-kept
-unfolding graph out
-slice-aggregate-number-kept c = sym (lending (graph (c .before .before .before .before .before .before .before .before .before .before .before .before .before .before .before .before .before .before .before .before .before .before .before .before .before .before)) (out (c .before .before .before .before .before .before .before .before .before .before .before .before .before .before .before .before .before .before .before .before .before .before .before .before .before .before)) (c .before .before .before .before .before .before .before .before .before .before .before .before .before .before .before .before .before .before .before .before .before .before .before .before .before .before .args .old) (c .before .before .before .before .before .before .before .before .before .before .before .before .before .before .before .before .before .before .before .before .before .before .before .before .before .before .args .marks .now) (c .before .before .before .before .before .asked .result) (c .before .before .before .before .before .asked .ensures) (c .before .before .is-done .ensures) (c .before .if1 .left) .part)
+unfolding graph
+slice-aggregate-number-kept c =
+    let at-asked = c .before .before .before .before .before in
+    let start = at-asked .before .before .before .before .before .before .before .before .before .before .before .before in
+    sym
+    (lending (graph start) (start .args .room) (start .args .old) (start .args .marks .now) (at-asked .asked .result) (at-asked .asked .ensures) (c .before .before .is-done .ensures)
+    (c .before .if1 .left) .part)
 
 number-kept-requires : tie.Need-number-kept-requires
-unfolding graph out
-number-kept-requires c κs = (flags-ready (graph (c .before .before .before .before .before .before .before .before .before .before .before .before .before .before .before .before .before .before .before .before .before .before .before .before .before .before)) _ (lending (graph (c .before .before .before .before .before .before .before .before .before .before .before .before .before .before .before .before .before .before .before .before .before .before .before .before .before .before)) (out (c .before .before .before .before .before .before .before .before .before .before .before .before .before .before .before .before .before .before .before .before .before .before .before .before .before .before)) (c .before .before .before .before .before .before .before .before .before .before .before .before .before .before .before .before .before .before .before .before .before .before .before .before .before .before .args .old) (c .before .before .before .before .before .before .before .before .before .before .before .before .before .before .before .before .before .before .before .before .before .before .before .before .before .before .args .marks .now) (c .before .before .before .before .before .asked .result) (c .before .before .before .before .before .asked .ensures) (c .before .before .is-done .ensures) (c .before .if1 .left) .ready), inputs-there (graph (c .before .before .before .before .before .before .before .before .before .before .before .before .before .before .before .before .before .before .before .before .before .before .before .before .before .before)) _ (lending (graph (c .before .before .before .before .before .before .before .before .before .before .before .before .before .before .before .before .before .before .before .before .before .before .before .before .before .before)) (out (c .before .before .before .before .before .before .before .before .before .before .before .before .before .before .before .before .before .before .before .before .before .before .before .before .before .before)) (c .before .before .before .before .before .before .before .before .before .before .before .before .before .before .before .before .before .before .before .before .before .before .before .before .before .before .args .old) (c .before .before .before .before .before .before .before .before .before .before .before .before .before .before .before .before .before .before .before .before .before .before .before .before .before .before .args .marks .now) (c .before .before .before .before .before .asked .result) (c .before .before .before .before .before .asked .ensures) (c .before .before .is-done .ensures) (c .before .if1 .left) .ready))
+unfolding graph
+number-kept-requires c κs =
+    let at-asked = c .before .before .before .before .before in
+    let start = at-asked .before .before .before .before .before .before .before .before .before .before .before .before in (
+      flags-ready (graph start) _
+          (lending (graph start) (start .args .room) (start .args .old) (start .args .marks .now) (at-asked .asked .result) (at-asked .asked .ensures) (c .before .before .is-done .ensures)
+          (c .before .if1 .left) .ready),
+      inputs-there (graph start) _
+          (lending (graph start) (start .args .room) (start .args .old) (start .args .marks .now) (at-asked .asked .result) (at-asked .asked .ensures) (c .before .before .is-done .ensures)
+          (c .before .if1 .left) .ready),
+    )
 
-has-room-requires : tie.Need-has-room-requires
-has-room-requires c κs = search needs
+fits-requires : tie.Need-fits-requires
+fits-requires c κs = search needs
 
 clear-requires : tie.Need-clear-requires
-unfolding graph out
-clear-requires c κs = numbers-cover (graph (c .before .before .before .before .before .before .before .before .before .before .before .before .before .before .before .before .before .before .before .before .before .before .before .before .before .before .before .before .before .before .before .before .before)) (out (c .before .before .before .before .before .before .before .before .before .before .before .before .before .before .before .before .before .before .before .before .before .before .before .before .before .before .before .before .before .before .before .before .before)) (c .before .before .before .before .before .before .before .before .before .before .before .before .before .before .before .before .before .before .before .before .before .before .before .before .before .before .before .before .before .before .before .before .before .args .old) (c .before .before .before .before .before .before .before .before .before .before .before .before .before .before .before .before .before .before .before .before .before .before .before .before .before .before .before .before .before .before .before .before .before .args .marks .now) (c .before .before .before .before .before .before .before .before .before .before .before .before .asked .result) (c .before .before .before .before .before .before .before .before .before .before .before .before .asked .ensures) (c .before .before .before .before .before .before .before .before .before .is-done .ensures) (c .before .before .before .before .before .before .before .before .if1 .left) (c .before .before .before .before .before .before .number-kept .ensures .1)
+unfolding graph
+clear-requires c κs =
+    let at-number-kept = c .before .before .before .before .before .before in
+    let at-if1 = at-number-kept .before .before in
+    let at-is-done = at-if1 .before in
+    let at-asked = at-is-done .before .before .before in
+    let start = at-asked .before .before .before .before .before .before .before .before .before .before .before .before in
+    numbers-cover (graph start) (start .args .room) (start .args .old) (start .args .marks .now) (at-asked .asked .result) (at-asked .asked .ensures) (at-is-done .is-done .ensures)
+    (at-if1 .if1 .left) (at-number-kept .number-kept .ensures .1)
 
 same-length-2 : tie.Need-same-length-2
-unfolding graph out
-same-length-2 c = c .before .before .clear .kept .0 ∙ (numbers-long (graph (c .before .before .before .before .before .before .before .before .before .before .before .before .before .before .before .before .before .before .before .before .before .before .before .before .before .before .before .before .before .before .before .before .before .before .before .before)) (out (c .before .before .before .before .before .before .before .before .before .before .before .before .before .before .before .before .before .before .before .before .before .before .before .before .before .before .before .before .before .before .before .before .before .before .before .before)) (c .before .before .before .before .before .before .before .before .before .before .before .before .before .before .before .before .before .before .before .before .before .before .before .before .before .before .before .before .before .before .before .before .before .before .before .before .args .old) (c .before .before .before .before .before .before .before .before .before .before .before .before .before .before .before .before .before .before .before .before .before .before .before .before .before .before .before .before .before .before .before .before .before .before .before .before .args .marks .now) (c .before .before .before .before .before .before .before .before .before .before .before .before .before .before .before .asked .result) (c .before .before .before .before .before .before .before .before .before .before .before .before .before .before .before .asked .ensures) (c .before .before .before .before .before .before .before .before .before .before .before .before .is-done .ensures) (c .before .before .before .before .before .before .before .before .before .before .before .if1 .left) (c .before .before .before .before .before .before .before .before .before .number-kept .ensures .1) ∙ c .before .before .before .before .before .before .before .before .before .before .before .before .before .before .before .asked .kept .1 .1 .1 .1 .1 .1 .1 .1 .1 .1 .1 .1 .1 .1 .1 .1 .1 .1 .1 .0)
+unfolding graph
+same-length-2 c =
+    let at-number-kept = c .before .before .before .before .before .before .before .before .before in
+    let at-if1 = at-number-kept .before .before in
+    let at-is-done = at-if1 .before in
+    let at-asked = at-is-done .before .before .before in
+    let start = at-asked .before .before .before .before .before .before .before .before .before .before .before .before in
+    c .before .before .clear .kept .0 ∙
+    (numbers-long (graph start) (start .args .room) (start .args .old) (start .args .marks .now) (at-asked .asked .result) (at-asked .asked .ensures) (at-is-done .is-done .ensures)
+    (at-if1 .if1 .left) (at-number-kept .number-kept .ensures .1) ∙ at-asked .asked .kept .1 .1 .1 .1 .1 .1 .1 .1 .1 .1 .1 .1 .0)
 
 returns-2 : tie.Need-returns-2
-unfolding graph out
-returns-2 c = no-room (graph (c .before .before .before .before .before .before .before .before .before .before .before .before .before .before .before .before .before .before .before .before .before .before .before .before .before .before .before .before .before .before .before .before .before .before .before .before)) (out (c .before .before .before .before .before .before .before .before .before .before .before .before .before .before .before .before .before .before .before .before .before .before .before .before .before .before .before .before .before .before .before .before .before .before .before .before)) (c .before .before .before .before .before .before .before .before .before .before .before .before .before .before .before .before .before .before .before .before .before .before .before .before .before .before .before .before .before .before .before .before .before .before .before .before .args .old) (c .before .before .before .before .before .before .before .before .before .before .before .before .before .before .before .before .before .before .before .before .before .before .before .before .before .before .before .before .before .before .before .before .before .before .before .before .args .marks .now) (c .before .before .before .before .before .before .before .before .before .before .before .before .before .before .before .asked .result) (c .before .before .before .before .before .before .before .before .before .before .before .before .before .before .before .asked .ensures) (c .before .before .before .before .before .before .before .before .before .before .before .before .is-done .ensures) (c .before .before .before .before .before .before .before .before .before .before .before .if1 .left) (c .before .before .before .before .before .before .before .before .before .number-kept .ensures .1) (c .before .before .before .before .before .before .before .before .before .number-kept .ensures .0) (c .before .before .before .before .before .before .has-room .ensures) refl (c .before .before .before .before .if2 .taken) (c .before .before .clear .ensures)
+unfolding graph
+returns-2 c =
+    let at-if2 = c .before .before .before .before in
+    let at-fits2 = at-if2 .before .before in
+    let at-number-kept = at-fits2 .before .before .before in
+    let at-if1 = at-number-kept .before .before in
+    let at-is-done = at-if1 .before in
+    let at-asked = at-is-done .before .before .before in
+    let start = at-asked .before .before .before .before .before .before .before .before .before .before .before .before in
+    no-room (graph start) (start .args .room) (start .args .old) (start .args .marks .now) (at-asked .asked .result) (at-asked .asked .ensures) (at-is-done .is-done .ensures)
+    (at-if1 .if1 .left) (at-number-kept .number-kept .ensures .1) (at-number-kept .number-kept .ensures .0) (at-fits2 .fits2 .ensures) refl (at-if2 .if2 .taken)
+    (c .before .before .clear .ensures)
 
 same-length-3 : tie.Need-same-length-3
-unfolding graph out
-same-length-3 c = numbers-long (graph (c .before .before .before .before .before .before .before .before .before .before .before .before .before .before .before .before .before .before .before .before .before .before .before .before .before .before .before .before .before .before .before .before)) (out (c .before .before .before .before .before .before .before .before .before .before .before .before .before .before .before .before .before .before .before .before .before .before .before .before .before .before .before .before .before .before .before .before)) (c .before .before .before .before .before .before .before .before .before .before .before .before .before .before .before .before .before .before .before .before .before .before .before .before .before .before .before .before .before .before .before .before .args .old) (c .before .before .before .before .before .before .before .before .before .before .before .before .before .before .before .before .before .before .before .before .before .before .before .before .before .before .before .before .before .before .before .before .args .marks .now) (c .before .before .before .before .before .before .before .before .before .before .before .asked .result) (c .before .before .before .before .before .before .before .before .before .before .before .asked .ensures) (c .before .before .before .before .before .before .before .before .is-done .ensures) (c .before .before .before .before .before .before .before .if1 .left) (c .before .before .before .before .before .number-kept .ensures .1) ∙ c .before .before .before .before .before .before .before .before .before .before .before .asked .kept .1 .1 .1 .1 .1 .1 .1 .1 .1 .1 .1 .1 .1 .1 .1 .1 .1 .1 .1 .0
+unfolding graph
+same-length-3 c =
+    let at-number-kept = c .before .before .before .before .before in
+    let at-if1 = at-number-kept .before .before in
+    let at-is-done = at-if1 .before in
+    let at-asked = at-is-done .before .before .before in
+    let start = at-asked .before .before .before .before .before .before .before .before .before .before .before .before in
+    numbers-long (graph start) (start .args .room) (start .args .old) (start .args .marks .now) (at-asked .asked .result) (at-asked .asked .ensures) (at-is-done .is-done .ensures)
+    (at-if1 .if1 .left) (at-number-kept .number-kept .ensures .1) ∙ at-asked .asked .kept .1 .1 .1 .1 .1 .1 .1 .1 .1 .1 .1 .1 .0
 
 returns-3 : tie.Need-returns-3
-unfolding graph out
-returns-3 c = all-found (graph (c .before .before .before .before .before .before .before .before .before .before .before .before .before .before .before .before .before .before .before .before .before .before .before .before .before .before .before .before .before .before .before .before)) (out (c .before .before .before .before .before .before .before .before .before .before .before .before .before .before .before .before .before .before .before .before .before .before .before .before .before .before .before .before .before .before .before .before)) (c .before .before .before .before .before .before .before .before .before .before .before .before .before .before .before .before .before .before .before .before .before .before .before .before .before .before .before .before .before .before .before .before .args .old) (c .before .before .before .before .before .before .before .before .before .before .before .before .before .before .before .before .before .before .before .before .before .before .before .before .before .before .before .before .before .before .before .before .args .marks .now) (c .before .before .before .before .before .before .before .before .before .before .before .asked .result) (c .before .before .before .before .before .before .before .before .before .before .before .asked .ensures) (c .before .before .before .before .before .before .before .before .is-done .ensures) (c .before .before .before .before .before .before .before .if1 .left) (c .before .before .before .before .before .number-kept .ensures .1) (c .before .before .before .before .before .number-kept .ensures .0) (c .before .before .has-room .ensures) refl (c .if2 .left)
+unfolding graph
+returns-3 c =
+    let at-number-kept = c .before .before .before .before .before in
+    let at-if1 = at-number-kept .before .before in
+    let at-is-done = at-if1 .before in
+    let at-asked = at-is-done .before .before .before in
+    let start = at-asked .before .before .before .before .before .before .before .before .before .before .before .before in
+    all-found (graph start) (start .args .room) (start .args .old) (start .args .marks .now) (at-asked .asked .result) (at-asked .asked .ensures) (at-is-done .is-done .ensures)
+    (at-if1 .if1 .left) (at-number-kept .number-kept .ensures .1) (at-number-kept .number-kept .ensures .0) (c .before .before .fits2 .ensures) refl (c .if2 .left)
 
 pub checked-spec : {M : Type 1} → statement M
 checked-spec =
@@ -77,7 +133,7 @@ checked-spec =
     slice-relend-prefix-number-kept
     slice-aggregate-number-kept
     number-kept-requires
-    has-room-requires
+    fits-requires
     clear-requires
     same-length-2
     returns-2

@@ -1,18 +1,19 @@
 -- `renumber::renamed_latch` meets its contract.
 -- Assumes nothing.
+use mathlib.Core.Path.{_∙_}
 use Rattle.renumber.specs.Renumber.{renamedLatch}
 use borrow.Author.Needs.{needs}
 use Rattle.renumber.proofs.renamed_latch.Statement.{statement}
 use Rattle.renumber.proofs.renamed_latch.Tie as tie
 
-cast-t3 : tie.Need-cast-t3
-cast-t3 c = search needs
+cast-with-edges : tie.Need-cast-with-edges
+cast-with-edges c = search needs
 
-mul-t4 : tie.Need-mul-t4
-mul-t4 c = search needs
+mul-with-edges : tie.Need-mul-with-edges
+mul-with-edges c = search needs
 
-shared-slice-read-t6 : tie.Need-shared-slice-read-t6
-shared-slice-read-t6 c = search needs
+shared-slice-read-with-edges : tie.Need-shared-slice-read-with-edges
+shared-slice-read-with-edges c = search needs
 
 renamed-requires : tie.Need-renamed-requires
 renamed-requires c κs = search needs
@@ -20,11 +21,21 @@ renamed-requires c κs = search needs
 renamed-requires-2 : tie.Need-renamed-requires-2
 renamed-requires-2 c κs = search needs
 
+with-edges-requires : tie.Need-with-edges-requires
+with-edges-requires c κs = search needs
+
 returns : tie.Need-returns
 unfolding renamedLatch
-returns c = rw (c .before .renamed .ensures, c .renamed2 .ensures)
+returns c = c .with-edges .ensures ∙ rw (c .before .before .renamed .ensures, c .before .renamed2 .ensures)
 
 pub renamed-latch-spec : {M : Type 1} → statement M
 renamed-latch-spec =
     tie.close
-    (tie.spec cast-t3 mul-t4 shared-slice-read-t6 renamed-requires renamed-requires-2 returns)
+    (tie.spec
+    cast-with-edges
+    mul-with-edges
+    shared-slice-read-with-edges
+    renamed-requires
+    renamed-requires-2
+    with-edges-requires
+    returns)

@@ -5,9 +5,9 @@ use native.Mathlib.Omega.{arith}
 use native.Mathlib.Nat.{le-antisymm}
 use mathlib.Core.Path.{_≡_, refl}
 use lib.ListN.{length}
-use Rattle.renumber.specs.Writing.{written}
+use Rattle.output.specs.Writing.{written}
 use Rattle.renumber.specs.Renumber.{idsOf, by}
-use Rattle.renumber.proofs.Writing.{written-turn}
+use Rattle.output.proofs.Writing.{written-turn}
 use borrow.Author.Needs.{needs}
 use Rattle.renumber.proofs.write_ids.Statement.{statement}
 use Rattle.renumber.proofs.write_ids.Tie as tie
@@ -53,7 +53,13 @@ loop-less : tie.Need-loop-less Inv-loop μ-loop
 loop-less c = search needs
 
 loop-again : tie.Need-loop-again Inv-loop μ-loop
-loop-again c = (search needs, search needs, written-turn (c .before .before .before .before .args .out .now) (c .before .before .before .before .args .at) (idsOf (by (c .before .before .before .before .args .map .now)) (c .before .before .before .before .args .list .now)) (c .before .before .before .loop .j) (c .before .before .before .loop .inv .2) refl)
+loop-again c = (
+  search needs,
+  search needs,
+  written-turn (c .before .before .before .before .args .out .now) (c .before .before .before .before .args .at)
+      (idsOf (by (c .before .before .before .before .args .map .now)) (c .before .before .before .before .args .list .now)) (c .before .before .before .loop .j)
+      (c .before .before .before .loop .inv .2) refl,
+)
 
 same-length : tie.Need-same-length Inv-loop μ-loop
 same-length c = search needs

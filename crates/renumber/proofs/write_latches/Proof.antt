@@ -40,7 +40,16 @@ loop-less : tie.Need-loop-less Inv-loop μ-loop
 loop-less c = search needs
 
 loop-again : tie.Need-loop-again Inv-loop μ-loop
-loop-again c = (search needs, search needs, latches-turn (by (c .before .before .before .before .before .before .before .before .before .before .before .args .map .now)) (c .before .before .before .before .before .before .before .before .before .before .before .args .out .now) (c .before .before .before .before .before .before .before .before .before .before .before .args .at) (c .before .before .before .before .before .before .before .before .before .before .before .args .latches .now) (c .before .before .before .before .before .before .before .loop .j) (c .before .before .before .before .before .before .before .loop .inv .2) (c .before .before .before .before .before .latch-at .ensures) (c .before .before .before .before .renamed-latch .ensures) (c .before .before .write-latch .ensures))
+loop-again c = (
+  search needs,
+  search needs,
+  latches-turn (by (c .before .before .before .before .before .before .before .before .before .before .before .args .map .now))
+      (c .before .before .before .before .before .before .before .before .before .before .before .args .out .now)
+      (c .before .before .before .before .before .before .before .before .before .before .before .args .at)
+      (c .before .before .before .before .before .before .before .before .before .before .before .args .latches .now) (c .before .before .before .before .before .before .before .loop .j)
+      (c .before .before .before .before .before .before .before .loop .inv .2) (c .before .before .before .before .before .latch-at .ensures)
+      (c .before .before .before .before .renamed-latch .ensures) (c .before .before .write-latch .ensures),
+)
 
 same-length : tie.Need-same-length Inv-loop μ-loop
 same-length c = search needs

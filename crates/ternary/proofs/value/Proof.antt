@@ -20,16 +20,24 @@ cast-if3 : tie.Need-cast-if3
 cast-if3 c = search needs
 
 shared-slice-read-if3 : tie.Need-shared-slice-read-if3
-shared-slice-read-if3 c = value-at (c .before .before .before .before .before .args .values .now) _ _ (c .before .before .before .if1 .left) (sym (c .before .before .is-used .ensures) ∙ not-false _ (c .before .if2 .left))
+shared-slice-read-if3 c =
+    let start = c .before .before .before .before .before in
+    value-at (start .args .values .now) _ _ (c .before .before .before .if1 .left) (sym (c .before .before .is-used .ensures) ∙ not-false _ (c .before .if2 .left))
 
 returns-3 : tie.Need-returns-3
 returns-3 c = value-code _ _ _ (c .before .before .before .before .if1 .left) (sym (c .before .before .before .is-used .ensures) ∙ not-false _ (c .before .before .if2 .left)) (c .if3 .taken)
 
 edge-code-requires : tie.Need-edge-code-requires
-edge-code-requires c κs = value-at (c .before .before .before .before .before .before .args .values .now) _ _ (c .before .before .before .before .if1 .left) (sym (c .before .before .before .is-used .ensures) ∙ not-false _ (c .before .before .if2 .left))
+edge-code-requires c κs =
+    let at-if1 = c .before .before .before .before in
+    let start = at-if1 .before .before in
+    value-at (start .args .values .now) _ _ (at-if1 .if1 .left) (sym (c .before .before .before .is-used .ensures) ∙ not-false _ (c .before .before .if2 .left))
 
 returns-4 : tie.Need-returns-4
-returns-4 c = value-done _ _ _ (c .before .before .before .before .before .if1 .left) (sym (c .before .before .before .before .is-used .ensures) ∙ not-false _ (c .before .before .before .if2 .left)) (c .before .if3 .left) _ (c .edge-code .ensures)
+returns-4 c =
+    let at-is-used = c .before .before .before .before in
+    let at-if1 = at-is-used .before in
+    value-done _ _ _ (at-if1 .if1 .left) (sym (at-is-used .is-used .ensures) ∙ not-false _ (c .before .before .before .if2 .left)) (c .before .if3 .left) _ (c .edge-code .ensures)
 
 pub value-spec : {M : Type 1} → statement M
 value-spec =

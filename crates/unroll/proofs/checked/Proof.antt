@@ -23,31 +23,49 @@ is-done-requires : tie.Need-is-done-requires
 is-done-requires c κs = search needs
 
 same-length : tie.Need-same-length
-same-length c = search needs
+same-length c = c .before .before .before .before .check-two .kept .1 .1 .1 .1 .1 .1 .1 .1 .1 .1 .1 .1 .1 .1 .1 .1 .1 .1 .1 .1 .0
 
 returns : tie.Need-returns
 unfolding one other
-returns c = check-stops (one (c .before .before .before .before .before .before .before .before .before .before .before .before .before .before .before .before .before .before .before .before .before .before .before .before .before)) (other (c .before .before .before .before .before .before .before .before .before .before .before .before .before .before .before .before .before .before .before .before .before .before .before .before .before)) ((c .before .before .before .before .before .before .before .before .before .before .before .before .before .before .before .before .before .before .before .before .before .before .before .before .before) .args .marks .now) (c .before .before .before .before .check-two .result) (c .before .before .before .before .check-two .ensures) (c .before .is-done .ensures) (c .if1 .taken)
+returns c =
+    let at-check-two = c .before .before .before .before in
+    let back25 = at-check-two .before .before .before .before .before .before .before .before .before .before .before .before .before .before .before .before .before .before .before .before in
+    let back25 = back25 .before in
+    check-stops (one back25) (other back25) (back25 .args .marks .now) (at-check-two .check-two .result) (at-check-two .check-two .ensures) (c .before .is-done .ensures) (c .if1 .taken)
 
 same-start-requires : tie.Need-same-start-requires
 unfolding one other
 same-start-requires c κs =
-    let t = two-long (one (c .before .before .before .before .before .before .before .before .before .before .before .before .before .before .before .before .before .before .before .before .before .before .before .before .before)) (other (c .before .before .before .before .before .before .before .before .before .before .before .before .before .before .before .before .before .before .before .before .before .before .before .before .before)) _ (both-sized (one (c .before .before .before .before .before .before .before .before .before .before .before .before .before .before .before .before .before .before .before .before .before .before .before .before .before)) (other (c .before .before .before .before .before .before .before .before .before .before .before .before .before .before .before .before .before .before .before .before .before .before .before .before .before)) ((c .before .before .before .before .before .before .before .before .before .before .before .before .before .before .before .before .before .before .before .before .before .before .before .before .before) .args .marks .now) (c .before .before .before .before .check-two .result) (c .before .before .before .before .check-two .ensures) (c .before .is-done .ensures) (c .if1 .left)) in
+    let at-check-two = c .before .before .before .before in
+    let back25 = at-check-two .before .before .before .before .before .before .before .before .before .before .before .before .before .before .before .before .before .before .before .before in
+    let back25 = back25 .before in
+    let t = two-long (one back25) (other back25) _
+    (both-sized (one back25) (other back25) (back25 .args .marks .now) (at-check-two .check-two .result) (at-check-two .check-two .ensures) (c .before .is-done .ensures) (c .if1 .left)) in
     ((t .0, t .1, t .2), (t .3, t .4))
 
 same-length-2 : tie.Need-same-length-2
-same-length-2 c = search needs
+same-length-2 c = c .before .before .before .before .before .before .check-two .kept .1 .1 .1 .1 .1 .1 .1 .1 .1 .1 .1 .1 .1 .1 .1 .1 .1 .1 .1 .1 .0
 
 returns-2 : tie.Need-returns-2
 unfolding one other
-returns-2 c = check-same (one (c .before .before .before .before .before .before .before .before .before .before .before .before .before .before .before .before .before .before .before .before .before .before .before .before .before .before .before)) (other (c .before .before .before .before .before .before .before .before .before .before .before .before .before .before .before .before .before .before .before .before .before .before .before .before .before .before .before)) ((c .before .before .before .before .before .before .before .before .before .before .before .before .before .before .before .before .before .before .before .before .before .before .before .before .before .before .before) .args .marks .now) (c .before .before .before .before .before .before .check-two .result) (c .before .before .before .before .before .before .check-two .ensures) (c .before .before .before .is-done .ensures) (c .before .before .if1 .left) (c .before .same-start .ensures) (c .if2 .taken)
+returns-2 c =
+    let at-check-two = c .before .before .before .before .before .before in
+    let back27 = at-check-two .before .before .before .before .before .before .before .before .before .before .before .before .before .before .before .before .before .before .before .before in
+    let back27 = back27 .before in
+    check-same (one back27) (other back27) (back27 .args .marks .now) (at-check-two .check-two .result) (at-check-two .check-two .ensures) (c .before .before .before .is-done .ensures)
+    (c .before .before .if1 .left) (c .before .same-start .ensures) (c .if2 .taken)
 
 same-length-3 : tie.Need-same-length-3
-same-length-3 c = search needs
+same-length-3 c = c .before .before .before .before .before .before .check-two .kept .1 .1 .1 .1 .1 .1 .1 .1 .1 .1 .1 .1 .1 .1 .1 .1 .1 .1 .1 .1 .0
 
 returns-3 : tie.Need-returns-3
 unfolding one other
-returns-3 c = check-differs (one (c .before .before .before .before .before .before .before .before .before .before .before .before .before .before .before .before .before .before .before .before .before .before .before .before .before .before .before)) (other (c .before .before .before .before .before .before .before .before .before .before .before .before .before .before .before .before .before .before .before .before .before .before .before .before .before .before .before)) ((c .before .before .before .before .before .before .before .before .before .before .before .before .before .before .before .before .before .before .before .before .before .before .before .before .before .before .before) .args .marks .now) (c .before .before .before .before .before .before .check-two .result) (c .before .before .before .before .before .before .check-two .ensures) (c .before .before .before .is-done .ensures) (c .before .before .if1 .left) (c .before .same-start .ensures) (c .if2 .left)
+returns-3 c =
+    let at-check-two = c .before .before .before .before .before .before in
+    let back27 = at-check-two .before .before .before .before .before .before .before .before .before .before .before .before .before .before .before .before .before .before .before .before in
+    let back27 = back27 .before in
+    check-differs (one back27) (other back27) (back27 .args .marks .now) (at-check-two .check-two .result) (at-check-two .check-two .ensures) (c .before .before .before .is-done .ensures)
+    (c .before .before .if1 .left) (c .before .same-start .ensures) (c .if2 .left)
 
 pub checked-spec : {M : Type 1} → statement M
 checked-spec =

@@ -37,8 +37,12 @@ loop-again : tie.Need-loop-again Inv-loop μ-loop
 loop-again c =
     let a = c .before .before .before .before .before .before .before .before .args in
     let p = ap (λ (l : Latch). l .input) (c .before .before .before .latch-at .ensures) in
-    let q = ap (λ (l : Latch). l .input) (c .before .before .latch-at2 .ensures) in
-    (search needs, rw (p, q) (look-further (sameLatch (a .latches .now) (a .latches2 .now)) (c .before .before .before .before .before .loop .j) (a .n) (c .before .before .before .before .before .loop .same) (c .before .before .before .before .before .loop .inv .1) (c .before .before .before .before .loop-test .taken)))
+    let q = ap (λ (l : Latch). l .input) (c .before .before .latch-at2 .ensures) in (
+      search needs,
+      rw (p, q)
+          (look-further (sameLatch (a .latches .now) (a .latches2 .now)) (c .before .before .before .before .before .loop .j) (a .n) (c .before .before .before .before .before .loop .same)
+          (c .before .before .before .before .before .loop .inv .1) (c .before .before .before .before .loop-test .taken)),
+    )
 
 returns : tie.Need-returns Inv-loop μ-loop
 returns c =

@@ -40,8 +40,11 @@ loop-less c = search needs
 
 loop-again : tie.Need-loop-again Inv-loop μ-loop
 loop-again c =
-    let a = c .before .before .before .before .args in
-    (search needs, look-further (sameWord (a .list .now) (a .list2 .now)) (c .before .before .before .loop .k) (a .n) (c .before .before .before .loop .same) (c .before .before .before .loop .inv .1) (c .before .before .loop-test .taken))
+    let a = c .before .before .before .before .args in (
+      search needs,
+      look-further (sameWord (a .list .now) (a .list2 .now)) (c .before .before .before .loop .k) (a .n) (c .before .before .before .loop .same) (c .before .before .before .loop .inv .1)
+          (c .before .before .loop-test .taken),
+    )
 
 returns : tie.Need-returns Inv-loop μ-loop
 returns c =

@@ -23,13 +23,22 @@ mul-add-and : tie.Need-mul-add-and
 mul-add-and c = search needs
 
 add-and-requires : tie.Need-add-and-requires
-add-and-requires c κs = let m = list-most _ _ _ _ _ _ (c .before .before .before .add-list .ensures) in omega (arith, m, c .before .before .before .before .before .before .before .before .before .before .before .pre .0, c .before .before .before .before .before .before .before .before .before .before .before .pre .1)
+add-and-requires c κs =
+    let start = c .before .before .before .before .before .before .before .before .before .before .before in
+    let m = list-most _ _ _ _ _ _ (c .before .before .before .add-list .ensures) in
+    omega (arith, m, start .pre .0, start .pre .1)
 
 same-length : tie.Need-same-length
-same-length c = search needs
+same-length c =
+    let at-add-list = c .before .before .before .before .before .before in
+    let at-add-row = at-add-list .before .before .before .before in
+    c .before .before .add-and .kept .0 ∙ (at-add-list .add-list .kept .0 ∙ at-add-row .add-row .kept .0)
 
 returns : tie.Need-returns
-returns c = c .before .before .add-and .ensures ∙ next-built _ _ _ (c .before .before .before .before .before .before .before .before .before .before .add-row .ensures) _ (c .before .before .before .before .before .before .add-list .ensures)
+returns c =
+    let at-add-list = c .before .before .before .before .before .before in
+    let at-add-row = at-add-list .before .before .before .before in
+    c .before .before .add-and .ensures ∙ next-built _ _ _ (at-add-row .add-row .ensures) _ (at-add-list .add-list .ensures)
 
 pub add-next-spec : {M : Type 1} → statement M
 add-next-spec =

@@ -16,7 +16,10 @@ make-requires : tie.Need-make-requires
 make-requires c κs = search needs
 
 returns : tie.Need-returns
-returns c = ap (λ (m : Making). m .used) (c .before .make .ensures) ∙ used-like _ [] (c .before .before .before .before .before .before .args .counts .rows) (take (c .before .before .before .before .before .before .args .counts .constraints) (c .before .before .before .before .before .before .args .constraints .now)) (take (c .before .before .before .before .before .before .args .counts .bads) (c .before .before .before .before .before .before .args .bads .now)) (take (c .before .before .before .before .before .before .args .counts .outputs) (c .before .before .before .before .before .before .args .outputs .now))
+returns c =
+    let start = c .before .before .before .before .before .before in
+    ap (λ (m : Making). m .used) (c .before .make .ensures) ∙ used-like _ [] (start .args .counts .rows) (take (start .args .counts .constraints) (start .args .constraints .now))
+    (take (start .args .counts .bads) (start .args .bads .now)) (take (start .args .counts .outputs) (start .args .outputs .now))
 
 pub count-rows-spec : {M : Type 1} → statement M
 count-rows-spec = tie.close (tie.spec slice-aggregate-make make-requires returns)

@@ -8,16 +8,25 @@ use Rattle.aig_move.proofs.making.make.Statement.{statement}
 use Rattle.aig_move.proofs.making.make.Tie as tie
 
 slice-aggregate-make-rows : tie.Need-slice-aggregate-make-rows
-slice-aggregate-make-rows c = sym (length-take-le (c .before .before .before .before .before .before .args .counts .constraints) (c .before .before .before .before .before .before .args .constraints .now) (c .before .before .before .before .before .before .pre .constraints-has))
+slice-aggregate-make-rows c =
+    let start = c .before .before .before .before .before .before in
+    sym (length-take-le (start .args .counts .constraints) (start .args .constraints .now) (start .pre .constraints-has))
 
 slice-aggregate-make-rows-2 : tie.Need-slice-aggregate-make-rows-2
-slice-aggregate-make-rows-2 c = sym (length-take-le (c .before .before .before .before .before .before .before .args .counts .bads) (c .before .before .before .before .before .before .before .args .bads .now) (c .before .before .before .before .before .before .before .pre .bads-has))
+slice-aggregate-make-rows-2 c =
+    let start = c .before .before .before .before .before .before .before in
+    sym (length-take-le (start .args .counts .bads) (start .args .bads .now) (start .pre .bads-has))
 
 slice-aggregate-make-rows-3 : tie.Need-slice-aggregate-make-rows-3
-slice-aggregate-make-rows-3 c = sym (length-take-le (c .before .before .before .before .before .before .before .before .args .counts .outputs) (c .before .before .before .before .before .before .before .before .args .outputs .now) (c .before .before .before .before .before .before .before .before .pre .outputs-has))
+slice-aggregate-make-rows-3 c =
+    let start = c .before .before .before .before .before .before .before .before in
+    sym (length-take-le (start .args .counts .outputs) (start .args .outputs .now) (start .pre .outputs-has))
 
 make-rows-requires : tie.Need-make-rows-requires
-make-rows-requires c κs = let l = length-take-le (c .before .before .before .before .before .before .before .before .args .counts .constraints) (c .before .before .before .before .before .before .before .before .args .constraints .now) (c .before .before .before .before .before .before .before .before .pre .constraints-has) in (omega (arith, c .before .before .before .before .before .before .before .before .pre .rows), omega (arith, l, c .before .before .before .before .before .before .before .before .pre .few))
+make-rows-requires c κs =
+    let start = c .before .before .before .before .before .before .before .before in
+    let l = length-take-le (start .args .counts .constraints) (start .args .constraints .now) (start .pre .constraints-has) in
+    (omega (arith, start .pre .rows), omega (arith, l, start .pre .few))
 
 same-length : tie.Need-same-length
 same-length c = search needs

@@ -42,16 +42,25 @@ same-length-6 : tie.Need-same-length-6
 same-length-6 c = search needs
 
 same-length-7 : tie.Need-same-length-7
-same-length-7 c = c .before .before .before .before .before .before .before .before .before .before .before .before .before .within .kept .1 .1 .1 .1 .1 .1 .1 .0 ∙ c .before .before .before .before .before .before .before .before .before .before .before .before .before .before .before .before .before .before .before .before .before .before .before .before .before .before .before .before .before .before .copied .kept .1 .0
+same-length-7 c =
+    let at-within = c .before .before .before .before .before .before .before .before .before .before .before .before .before in
+    let at-copied = at-within .before .before .before .before .before .before .before .before .before .before .before .before .before .before .before .before .before in
+    at-within .within .kept .1 .1 .1 .1 .1 .1 .1 .0 ∙ at-copied .copied .kept .1 .0
 
 same-length-8 : tie.Need-same-length-8
 same-length-8 c = search needs
 
 same-length-9 : tie.Need-same-length-9
-same-length-9 c = c .before .before .before .before .before .before .before .before .before .before .before .before .before .within .kept .1 .1 .1 .1 .1 .0 ∙ c .before .before .before .before .before .before .before .before .before .before .before .before .before .before .before .before .before .before .before .before .before .before .before .before .before .before .before .before .before .before .copied .kept .1 .1 .1 .0
+same-length-9 c =
+    let at-within = c .before .before .before .before .before .before .before .before .before .before .before .before .before in
+    let at-copied = at-within .before .before .before .before .before .before .before .before .before .before .before .before .before .before .before .before .before in
+    at-within .within .kept .1 .1 .1 .1 .1 .0 ∙ at-copied .copied .kept .1 .1 .1 .0
 
 same-length-10 : tie.Need-same-length-10
-same-length-10 c = c .before .before .before .before .before .before .before .before .before .before .before .before .before .within .kept .1 .1 .1 .1 .1 .1 .0 ∙ c .before .before .before .before .before .before .before .before .before .before .before .before .before .before .before .before .before .before .before .before .before .before .before .before .before .before .before .before .before .before .copied .kept .1 .1 .1 .1 .0
+same-length-10 c =
+    let at-within = c .before .before .before .before .before .before .before .before .before .before .before .before .before in
+    let at-copied = at-within .before .before .before .before .before .before .before .before .before .before .before .before .before .before .before .before .before in
+    at-within .within .kept .1 .1 .1 .1 .1 .1 .0 ∙ at-copied .copied .kept .1 .1 .1 .1 .0
 
 returns-2 : tie.Need-returns-2
 returns-2 c = search needs

@@ -4,7 +4,7 @@ use mathlib.Core.Path.{refl}
 use Prim.Native.Nat.{_/_}
 use lib.ListN.{length}
 use borrow.Author.Tests.{ltb-true}
-use Rattle.roots.specs.Marking.{markEdges}
+use Rattle.root_marks.specs.Marking.{markEdges}
 use borrow.Author.Needs.{needs}
 use Rattle.cnf.proofs.walk.mark_edge.Statement.{statement}
 use Rattle.cnf.proofs.walk.mark_edge.Tie as tie

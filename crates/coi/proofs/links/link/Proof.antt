@@ -6,7 +6,7 @@ use native.Mathlib.Nat.{le-antisymm}
 use mathlib.Core.Path.{_≡_, refl, ap}
 use lib.ListN.{length}
 use Rattle.graph.specs.declared.latch.Latch.{Latch}
-use Rattle.coi.specs.Walk.{Links}
+use Rattle.coi.specs.Steps.{Links}
 use Rattle.coi.proofs.Linking.{links-none, links-more}
 use borrow.Author.Needs.{needs}
 use Rattle.coi.proofs.links.link.Statement.{statement}
@@ -37,7 +37,9 @@ mul-marks : tie.Need-mul-marks Inv-loop μ-loop
 mul-marks c = search needs
 
 slice-write-marks : tie.Need-slice-write-marks Inv-loop μ-loop
-slice-write-marks c = omega (arith, c .before .before .before .before .before .before .pre .0 .inputs-used (c .before .before .before .loop .k) (c .before .before .loop-test .taken), ap (λ (l : Latch). l .input) (c .before .latch-at .ensures))
+slice-write-marks c =
+    let start = c .before .before .before .before .before .before in
+    omega (arith, start .pre .0 .inputs-used (c .before .before .before .loop .k) (c .before .before .loop-test .taken), ap (λ (l : Latch). l .input) (c .before .latch-at .ensures))
 
 add-k : tie.Need-add-k Inv-loop μ-loop
 add-k c = search needs
@@ -46,7 +48,14 @@ loop-less : tie.Need-loop-less Inv-loop μ-loop
 loop-less c = search needs
 
 loop-again : tie.Need-loop-again Inv-loop μ-loop
-loop-again c = (search needs, search needs, links-more _ _ _ _ (ap (λ (l : Latch). l .input) (c .before .latch-at .ensures)) (omega (arith, c .before .before .before .before .before .before .pre .0 .inputs-used (c .before .before .before .loop .k) (c .before .before .loop-test .taken), ap (λ (l : Latch). l .input) (c .before .latch-at .ensures))) (c .before .before .before .loop .inv .2))
+loop-again c =
+    let start = c .before .before .before .before .before .before in (
+      search needs,
+      search needs,
+      links-more _ _ _ _ (ap (λ (l : Latch). l .input) (c .before .latch-at .ensures))
+          (omega (arith, start .pre .0 .inputs-used (c .before .before .before .loop .k) (c .before .before .loop-test .taken), ap (λ (l : Latch). l .input) (c .before .latch-at .ensures)))
+          (c .before .before .before .loop .inv .2),
+    )
 
 same-length : tie.Need-same-length Inv-loop μ-loop
 same-length c = search needs

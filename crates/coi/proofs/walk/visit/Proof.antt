@@ -10,7 +10,9 @@ use Rattle.coi.proofs.walk.visit.Tie as tie
 
 -- there is a word left on the stack
 room : (c : tie.Else1) → c .before .before .args .count < length (c .before .before .args .stack .now)
-room c = push-room (c .before .before .args .j) (c .before .before .args .flags .now) (c .before .before .args .stack .now) (c .before .before .args .count) (c .before .before .pre .1) (c .before .before .pre .0) (c .if1 .left)
+room c =
+    push-room (c .before .before .args .j) (c .before .before .args .flags .now) (c .before .before .args .stack .now) (c .before .before .args .count) (c .before .before .pre .1)
+    (c .before .before .pre .0) (c .if1 .left)
 
 mul-if1 : tie.Need-mul-if1
 mul-if1 c = search needs
@@ -46,7 +48,9 @@ same-length-2 : tie.Need-same-length-2
 same-length-2 c = search needs
 
 returns-2 : tie.Need-returns-2
-returns-2 c = new-on (c .before .before .args .j) (c .before .before .args .flags .now) (c .before .before .args .stack .now) (c .before .before .args .count) (c .before .before .pre .1) (c .before .before .pre .0) (c .if1 .left)
+returns-2 c =
+    new-on (c .before .before .args .j) (c .before .before .args .flags .now) (c .before .before .args .stack .now) (c .before .before .args .count) (c .before .before .pre .1)
+    (c .before .before .pre .0) (c .if1 .left)
 
 pub visit-spec : {M : Type 1} → statement M
 visit-spec =

@@ -5,9 +5,9 @@ use native.Mathlib.Omega.{arith}
 use mathlib.Core.Path.{_≡_, refl, sym, ap, _∙_}
 use lib.ListN.{length, drop, getD}
 use borrow.Author.Tests.{ltb-true}
-use Rattle.roots.proofs.Arguments.{every-at}
+use Rattle.root_marks.proofs.Arguments.{every-at}
 use Rattle.coi.specs.Coi.{visitedAll, usedRow}
-use Rattle.coi.specs.Walk.{workOf, Going}
+use Rattle.coi.specs.Steps.{workOf, Going}
 use Rattle.coi.proofs.Visiting.{going-on}
 use Rattle.coi.proofs.Walking.{visits-turn, visits-end}
 use borrow.Author.Needs.{needs}
@@ -23,8 +23,12 @@ abbrev μ-loop : tie.MeasureT-loop
 μ-loop ids flags₀ stack₀ first count₀ k₀ k-end flags stack count k = length ids - k
 
 -- the id is that of a used row
-id-used : (c : tie.In-loop Inv-loop μ-loop) → getD (c .before .before .before .before .before .args .ids .now) (c .before .loop .k) 0 < length (c .before .before .before .before .before .args .flags .now)
-id-used c = ltb-true _ _ (every-at (usedRow (length (c .before .before .before .before .before .args .flags .now))) (c .before .before .before .before .before .args .ids .now) (c .before .before .before .before .before .pre .0) (c .before .loop .k) (c .loop-test .taken))
+id-used : (c : tie.In-loop Inv-loop μ-loop) →
+    let start = c .before .before .before .before .before in
+    getD (start .args .ids .now) (c .before .loop .k) 0 < length (start .args .flags .now)
+id-used c =
+    let start = c .before .before .before .before .before in
+    ltb-true _ _ (every-at (usedRow (length (start .args .flags .now))) (start .args .ids .now) (start .pre .0) (c .before .loop .k) (c .loop-test .taken))
 
 loop-holds : tie.Need-loop-holds Inv-loop μ-loop
 loop-holds c = (search needs, refl, refl, c .before .before .before .pre .1, refl)
@@ -39,7 +43,9 @@ cast-j : tie.Need-cast-j Inv-loop μ-loop
 cast-j c = omega (arith, c .shared-slice-known2 .given (c .before .before .loop .k))
 
 visit-requires : tie.Need-visit-requires Inv-loop μ-loop
-visit-requires c κs = rw (c .before .before .before .before .loop .inv .1, c .before .before .before .before .loop .inv .2) (id-used (c .before .before .before), c .before .before .before .before .loop .inv .3)
+visit-requires c κs =
+    let at-loop = c .before .before .before .before in
+    rw (at-loop .loop .inv .1, at-loop .loop .inv .2) (id-used (c .before .before .before), at-loop .loop .inv .3)
 
 add-k : tie.Need-add-k Inv-loop μ-loop
 add-k c = search needs
@@ -48,13 +54,16 @@ loop-less : tie.Need-loop-less Inv-loop μ-loop
 loop-less c = search needs
 
 loop-again : tie.Need-loop-again Inv-loop μ-loop
-loop-again c = (
-  search needs,
-  search needs,
-  search needs,
-  going-on _ _ _ (c .before .before .before .before .visit .ensures) (id-used (c .before .before .before .before .before .before .before .before)) (c .before .before .before .before .before .before .before .before .before .loop .inv .3),
-  ap (visitedAll _) (c .before .before .before .before .visit .ensures) ∙ (sym (visits-turn _ _ _ (c .before .before .before .before .before .before .before .before .loop-test .taken)) ∙ c .before .before .before .before .before .before .before .before .before .loop .inv .4),
-)
+loop-again c =
+    let at-visit = c .before .before .before .before in
+    let at-loop-test = at-visit .before .before .before .before in
+    let at-loop = at-loop-test .before in (
+      search needs,
+      search needs,
+      search needs,
+      going-on _ _ _ (at-visit .visit .ensures) (id-used at-loop-test) (at-loop .loop .inv .3),
+      ap (visitedAll _) (at-visit .visit .ensures) ∙ (sym (visits-turn _ _ _ (at-loop-test .loop-test .taken)) ∙ at-loop .loop .inv .4),
+    )
 
 same-length : tie.Need-same-length Inv-loop μ-loop
 same-length c = search needs

@@ -28,7 +28,10 @@ loop-less : tie.Need-loop-less Inv-loop μ-loop
 loop-less c = search needs
 
 loop-again : tie.Need-loop-again Inv-loop μ-loop
-loop-again c = (search needs, search needs, ap (markBelow _ _) (c .before .before .mark-row .ensures) ∙ (sym (below-turn _ _ _ (c .before .before .before .before .loop-test .taken)) ∙ c .before .before .before .before .before .loop .inv .2))
+loop-again c =
+    let at-loop-test = c .before .before .before .before in
+    let at-loop = at-loop-test .before in
+    (search needs, search needs, ap (markBelow _ _) (c .before .before .mark-row .ensures) ∙ (sym (below-turn _ _ _ (at-loop-test .loop-test .taken)) ∙ at-loop .loop .inv .2))
 
 same-length : tie.Need-same-length Inv-loop μ-loop
 same-length c = search needs

@@ -14,11 +14,18 @@ use Rattle.cone.proofs.below.mark_row.Statement.{statement}
 use Rattle.cone.proofs.below.mark_row.Tie as tie
 
 -- row i is flagged and is a gate
-tested : (c : tie.Else1) → eqb (getD (c .before .before .before .before .before .before .before .args .flags .now) (c .before .before .before .before .before .before .before .args .i) 0) 1 && gateAt (c .before .before .before .before .before .before .before .args .rows .now) (c .before .before .before .before .before .before .before .args .i) ≡ true
+tested : (c : tie.Else1) →
+    let start = c .before .before .before .before .before .before .before in
+    eqb (getD (start .args .flags .now) (start .args .i) 0) 1 && gateAt (start .args .rows .now) (start .args .i) ≡ true
 tested c = rw (← (c .before .is-gate .ensures)) (not-false _ (c .if1 .left))
 
-fanins : (c : tie.Else1) → (word0 (c .before .before .before .before .before .before .before .args .rows .now) (c .before .before .before .before .before .before .before .args .i) / 2 < c .before .before .before .before .before .before .before .args .i) × (word1 (c .before .before .before .before .before .before .before .args .rows .now) (c .before .before .before .before .before .before .before .args .i) / 2 < c .before .before .before .before .before .before .before .args .i)
-fanins c = test-below (getD (c .before .before .before .before .before .before .before .args .flags .now) (c .before .before .before .before .before .before .before .args .i) 0) (c .before .before .before .before .before .before .before .args .i) (word0 (c .before .before .before .before .before .before .before .args .rows .now) (c .before .before .before .before .before .before .before .args .i)) (word1 (c .before .before .before .before .before .before .before .args .rows .now) (c .before .before .before .before .before .before .before .args .i)) (tested c)
+fanins : (c : tie.Else1) →
+    let start = c .before .before .before .before .before .before .before in
+    (word0 (start .args .rows .now) (start .args .i) / 2 < start .args .i) × (word1 (start .args .rows .now) (start .args .i) / 2 < start .args .i)
+fanins c =
+    let start = c .before .before .before .before .before .before .before in
+    test-below (getD (start .args .flags .now) (start .args .i) 0) (start .args .i) (word0 (start .args .rows .now) (start .args .i)) (word1 (start .args .rows .now) (start .args .i))
+    (tested c)
 
 mul-a : tie.Need-mul-a
 mul-a c = search needs
@@ -51,7 +58,9 @@ is-gate-requires : tie.Need-is-gate-requires
 is-gate-requires c κs = search needs
 
 returns : tie.Need-returns
-returns c = sym (row-stays (c .before .before .before .before .before .before .before .args .rows .now) (c .before .before .before .before .before .before .before .args .i) (c .before .before .before .before .before .before .before .args .flags .now) (rw (← (c .before .is-gate .ensures)) (not-true _ (c .if1 .taken))))
+returns c =
+    let start = c .before .before .before .before .before .before .before in
+    sym (row-stays (start .args .rows .now) (start .args .i) (start .args .flags .now) (rw (← (c .before .is-gate .ensures)) (not-true _ (c .if1 .taken))))
 
 cast-x : tie.Need-cast-x
 cast-x c = omega (arith, fanins c)
@@ -75,7 +84,9 @@ same-length : tie.Need-same-length
 same-length c = search needs
 
 returns-2 : tie.Need-returns-2
-returns-2 c = sym (row-marks (c .before .before .before .before .before .before .before .args .rows .now) (c .before .before .before .before .before .before .before .args .i) (c .before .before .before .before .before .before .before .args .flags .now) (tested c))
+returns-2 c =
+    let start = c .before .before .before .before .before .before .before in
+    sym (row-marks (start .args .rows .now) (start .args .i) (start .args .flags .now) (tested c))
 
 pub mark-row-spec : {M : Type 1} → statement M
 mark-row-spec =

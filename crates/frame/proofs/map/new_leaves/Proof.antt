@@ -4,7 +4,7 @@ use Prim.Native.Nat.{_+_, _-_, _≤_}
 use mathlib.Core.Path.{_≡_}
 use mathlib.Core.Logic.{⊎-elim}
 use lib.ListN.{length}
-use Rattle.frame.specs.Frame.{newLeaves}
+use Rattle.frame.specs.Steps.{newLeaves}
 use Rattle.frame.proofs.Bounding.{leaves-start, leaves-ended, leaves-one, leaves-no, one-more, no-more}
 use borrow.Author.Needs.{needs}
 use Rattle.frame.proofs.map.new_leaves.Statement.{statement}

@@ -37,7 +37,17 @@ mul-map : tie.Need-mul-map Inv-loop μ-loop
 mul-map c = search needs
 
 slice-write-map-2 : tie.Need-slice-write-map-2 Inv-loop μ-loop
-slice-write-map-2 c = let e = ap (λ (l : _). l .input) (c .before .latch-at .ensures) in omega (arith, e, (c .before .before .before .before .before .before .before .before .before .before) .pre .1 .within (c .before .before .before .loop .j) (c .before .before .loop-test .taken), length-set (c .before .before .before .before .before .before .unmapped .last .0) 0 0, c .before .before .before .before .before .before .unmapped .kept .0)
+slice-write-map-2 c =
+    let at-unmapped = c .before .before .before .before .before .before in
+    let back10 = at-unmapped .before .before .before .before in
+    let e = ap (λ (l : _). l .input) (c .before .latch-at .ensures) in
+    omega (
+      arith,
+      e,
+      back10 .pre .1 .within (c .before .before .before .loop .j) (c .before .before .loop-test .taken),
+      length-set (at-unmapped .unmapped .last .0) 0 0,
+      at-unmapped .unmapped .kept .0,
+    )
 
 add-j : tie.Need-add-j Inv-loop μ-loop
 add-j c = search needs
@@ -46,13 +56,22 @@ loop-less : tie.Need-loop-less Inv-loop μ-loop
 loop-less c = search needs
 
 loop-again : tie.Need-loop-again Inv-loop μ-loop
-loop-again c = (search needs, search needs, nexts-mapped-turn ((c .before .before .before .before .before .before .before .before .before .before) .args .latches .now) _ (c .before .before .before .loop .j) (c .before .before .before .loop .inv .2) (c .before .latch-at .ensures))
+loop-again c = (
+  search needs,
+  search needs,
+  nexts-mapped-turn ((c .before .before .before .before .before .before .before .before .before .before) .args .latches .now) _ (c .before .before .before .loop .j)
+      (c .before .before .before .loop .inv .2) (c .before .latch-at .ensures),
+)
 
 same-length : tie.Need-same-length Inv-loop μ-loop
 same-length c = omega (arith, length-set (c .before .before .before .before .unmapped .last .0) 0 0, c .before .before .before .before .unmapped .kept .0, c .before .loop .inv .1)
 
 returns : tie.Need-returns Inv-loop μ-loop
-returns c = started ((c .before .before .before .before .before .before .before .before) .args .latches .now) (length ((c .before .before .before .before .before .before .before .before) .args .map .now)) (c .before .loop .inv .2) (c .before .before .before .before .unmapped .ensures) (le-antisymm (c .before .loop .inv .0) (c .loop-test .left))
+returns c =
+    let at-unmapped = c .before .before .before .before in
+    let back8 = at-unmapped .before .before .before .before in
+    started (back8 .args .latches .now) (length (back8 .args .map .now)) (c .before .loop .inv .2) (at-unmapped .unmapped .ensures)
+    (le-antisymm (c .before .loop .inv .0) (c .loop-test .left))
 
 pub start-map-spec : {M : Type 1} → statement M
 start-map-spec =

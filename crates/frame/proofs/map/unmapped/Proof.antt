@@ -35,7 +35,11 @@ loop-less : tie.Need-loop-less Inv-loop μ-loop
 loop-less c = search needs
 
 loop-again : tie.Need-loop-again Inv-loop μ-loop
-loop-again c = (search needs, search needs, ap (λ (l : List _). set l (c .before .loop .i) none) (c .before .loop .inv .2) ∙ fill-more (c .before .loop .i) none ((c .before .before) .args .map .now) (omega arith))
+loop-again c = (
+  search needs,
+  search needs,
+  ap (λ (l : List _). set l (c .before .loop .i) none) (c .before .loop .inv .2) ∙ fill-more (c .before .loop .i) none ((c .before .before) .args .map .now) (omega arith),
+)
 
 same-length : tie.Need-same-length Inv-loop μ-loop
 same-length c = search needs

@@ -3,8 +3,9 @@
 use Prim.Native.Nat.{_-_, _≤_}
 use native.Mathlib.Omega.{arith}
 use native.Mathlib.Nat.{le-antisymm}
-use mathlib.Core.Path.{_≡_, refl}
+use mathlib.Core.Path.{_≡_, refl, ap, _∙_}
 use lib.ListN.{length}
+use Rattle.graph.specs.Latches.{latchSet}
 use Rattle.frame.specs.Map.{nextsSet}
 use Rattle.frame.proofs.Mapping.{nexts-set-turn}
 use borrow.Author.Needs.{needs}
@@ -30,6 +31,9 @@ mapped-requires c κs = rw (c .latch-at .ensures) ((c .before .before .before .b
 latch-at-requires-2 : tie.Need-latch-at-requires-2 Inv-loop μ-loop
 latch-at-requires-2 c κs = search needs
 
+with-next-requires : tie.Need-with-next-requires Inv-loop μ-loop
+with-next-requires c κs = search needs
+
 write-latch-requires : tie.Need-write-latch-requires Inv-loop μ-loop
 write-latch-requires c κs = search needs
 
@@ -40,7 +44,16 @@ loop-less : tie.Need-loop-less Inv-loop μ-loop
 loop-less c = search needs
 
 loop-again : tie.Need-loop-again Inv-loop μ-loop
-loop-again c = (search needs, search needs, nexts-set-turn ((c .before .before .before .before .before .before .before .before .before .before .before .before .before) .args .map .now) ((c .before .before .before .before .before .before .before .before .before .before .before .before .before) .args .latches .now) ((c .before .before .before .before .before .before .before .before .before .before .before .before .before) .args .from .now) (c .before .before .before .before .before .before .before .before .before .loop .j) (c .before .before .before .before .before .before .before .before .before .loop .inv .2) (c .before .before .before .before .latch-at2 .ensures) (c .before .before .before .before .before .before .before .latch-at .ensures) (c .before .before .before .before .before .before .mapped .ensures) (c .before .before .write-latch .ensures))
+loop-again c = (
+  search needs,
+  search needs,
+  nexts-set-turn (c .before .before .before .before .before .before .before .before .before .before .before .before .before .before .args .map .now)
+      (c .before .before .before .before .before .before .before .before .before .before .before .before .before .before .args .latches .now)
+      (c .before .before .before .before .before .before .before .before .before .before .before .before .before .before .args .from .now)
+      (c .before .before .before .before .before .before .before .before .before .before .loop .j) (c .before .before .before .before .before .before .before .before .before .before .loop .inv .2)
+      (c .before .before .before .before .before .latch-at2 .ensures) (c .before .before .before .before .before .before .before .before .latch-at .ensures)
+      (c .before .before .before .before .before .before .before .mapped .ensures) (c .before .before .write-latch .ensures ∙ ap (latchSet _ _) (c .before .before .before .with-next .ensures)),
+)
 
 same-length : tie.Need-same-length Inv-loop μ-loop
 same-length c = search needs
@@ -58,6 +71,7 @@ write-nexts-spec =
     latch-at-requires
     mapped-requires
     latch-at-requires-2
+    with-next-requires
     write-latch-requires
     add-j
     loop-less

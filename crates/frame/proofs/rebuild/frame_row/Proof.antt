@@ -58,10 +58,14 @@ same-length-2 c = search needs
 
 returns : tie.Need-returns
 returns c =
-    let s = c .before .before .before .before .before .before .before .before .before .before .before .before .before .before .before in
+    let at-mapped = c .before .before .before .before .before in
+    let at-if1 = at-mapped .before .before .before in
+    let back15 = at-if1 .before .before .before .before .before .before .before in
+    let s = back15 in
     let a = s .args in
-    row-gate (a .from .now) (a .i) (frame (a .rows .now) (a .at .used) (a .inputs .now) (a .at .inputs) (a .map .now)) (first-gate (a .from .now) (a .i) (s .pre .0 .0) (omega (arith, c .before .before .before .before .before .before .before .before .if1 .taken)))
-    (c .before .before .before .before .before .mapped .ensures) (c .before .before .before .mapped2 .ensures) _ (c .before .before .add-and .ensures)
+    row-gate (a .from .now) (a .i) (frame (a .rows .now) (a .at .used) (a .inputs .now) (a .at .inputs) (a .map .now))
+    (first-gate (a .from .now) (a .i) (s .pre .0 .0) (omega (arith, at-if1 .if1 .taken))) (at-mapped .mapped .ensures) (c .before .before .before .mapped2 .ensures) _
+    (c .before .before .add-and .ensures)
 
 mul-if2 : tie.Need-mul-if2
 mul-if2 c = search needs
@@ -94,23 +98,29 @@ same-length-3 : tie.Need-same-length-3
 same-length-3 c = search needs
 
 same-length-4 : tie.Need-same-length-4
-same-length-4 c = search needs
+same-length-4 c = c .before .before .before .before .before .before .before .add-leaf .kept .1 .0
 
 same-length-5 : tie.Need-same-length-5
 same-length-5 c = search needs
 
 returns-2 : tie.Need-returns-2
 returns-2 c =
-    let s = c .before .before .before .before .before .before .before .before .before .before .before .before .before .before .before .before .before .before .before in
+    let at-add-leaf = c .before .before .before .before .before .before .before in
+    let at-if2 = at-add-leaf .before .before .before in
+    let at-if1 = at-if2 .before .before in
+    let back19 = at-if1 .before .before .before .before .before .before .before in
+    let s = back19 in
     let a = s .args in
-    row-leaf (a .from .now) (a .i) (frame (a .rows .now) (a .at .used) (a .inputs .now) (a .at .inputs) (a .map .now)) (else-no-gate (a .from .now) (a .i) (s .pre .0 .1) (omega (arith, c .before .before .before .before .before .before .before .before .before .before .before .before .if1 .left)))
-    (c .before .before .before .before .before .before .before .before .before .before .if2 .taken) (c .before .before .before .before .before .before .before .add-leaf .ensures .0) (c .before .before .before .before .before .before .before .add-leaf .ensures .1)
+    row-leaf (a .from .now) (a .i) (frame (a .rows .now) (a .at .used) (a .inputs .now) (a .at .inputs) (a .map .now))
+    (else-no-gate (a .from .now) (a .i) (s .pre .0 .1) (omega (arith, at-if1 .if1 .left))) (at-if2 .if2 .taken) (at-add-leaf .add-leaf .ensures .0) (at-add-leaf .add-leaf .ensures .1)
 
 returns-3 : tie.Need-returns-3
 returns-3 c =
-    let s = c .before .before .before .before .before .before .before .before .before in
+    let back9 = c .before .before .before .before .before .before .before .before .before in
+    let s = back9 in
     let a = s .args in
-    row-stays (a .from .now) (a .i) (frame (a .rows .now) (a .at .used) (a .inputs .now) (a .at .inputs) (a .map .now)) (else-no-gate (a .from .now) (a .i) (s .pre .0 .1) (omega (arith, c .before .before .if1 .left))) (c .if2 .left)
+    row-stays (a .from .now) (a .i) (frame (a .rows .now) (a .at .used) (a .inputs .now) (a .at .inputs) (a .map .now))
+    (else-no-gate (a .from .now) (a .i) (s .pre .0 .1) (omega (arith, c .before .before .if1 .left))) (c .if2 .left)
 
 pub frame-row-spec : {M : Type 1} → statement M
 frame-row-spec =

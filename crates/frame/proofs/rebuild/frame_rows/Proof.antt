@@ -12,7 +12,9 @@ use Rattle.frame.proofs.rebuild.frame_rows.Statement.{statement}
 use Rattle.frame.proofs.rebuild.frame_rows.Tie as tie
 
 abbrev Inv-loop : tie.InvT-loop
-Inv-loop from rows₀ inputs₀ map₀ n used₀ listed₀ i₀ rows inputs map used listed i = (i ≤ n) × (used ≤ used₀ + i) × (listed ≤ listed₀ + i) × (length map ≡ length map₀) × (length rows ≡ length rows₀) × (length inputs ≡ length inputs₀) × (frameRows from i (n - i) (frame rows used inputs listed map) ≡ frameRows from 0 n (frame rows₀ used₀ inputs₀ listed₀ map₀))
+Inv-loop from rows₀ inputs₀ map₀ n used₀ listed₀ i₀ rows inputs map used listed i =
+    (i ≤ n) × (used ≤ used₀ + i) × (listed ≤ listed₀ + i) × (length map ≡ length map₀) × (length rows ≡ length rows₀) × (length inputs ≡ length inputs₀) ×
+    (frameRows from i (n - i) (frame rows used inputs listed map) ≡ frameRows from 0 n (frame rows₀ used₀ inputs₀ listed₀ map₀))
 
 abbrev μ-loop : tie.MeasureT-loop
 μ-loop from rows₀ inputs₀ map₀ n used₀ listed₀ i₀ rows inputs map used listed i = n - i
@@ -38,8 +40,15 @@ loop-again c =
     let l = c .before .before .before .before .before .before .before .before .before .before .before .loop in
     let s = frame (l .rows) (l .used) (l .inputs) (l .listed) (l .map) in
     let e = c .before .before .before .before .before .before .frame-row .ensures in
-    let t = turned (a .from .now) (l .i) s _ e in
-    (search needs, omega (arith, t .most, l .inv .1), omega (arith, t .listed-most, l .inv .2), t .map-long ∙ l .inv .3, t .rows-long ∙ l .inv .4, t .inputs-long ∙ l .inv .5, rows-turn (a .from .now) (length (a .map .now)) (l .i) s _ (l .inv .6) (c .before .before .before .before .before .before .before .before .before .before .loop-test .taken) _ e)
+    let t = turned (a .from .now) (l .i) s _ e in (
+      search needs,
+      omega (arith, t .most, l .inv .1),
+      omega (arith, t .listed-most, l .inv .2),
+      t .map-long ∙ l .inv .3,
+      t .rows-long ∙ l .inv .4,
+      t .inputs-long ∙ l .inv .5,
+      rows-turn (a .from .now) (length (a .map .now)) (l .i) s _ (l .inv .6) (c .before .before .before .before .before .before .before .before .before .before .loop-test .taken) _ e,
+    )
 
 same-length : tie.Need-same-length Inv-loop μ-loop
 same-length c = search needs

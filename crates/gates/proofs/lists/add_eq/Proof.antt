@@ -17,19 +17,38 @@ not-requires-2 : tie.Need-not-requires-2
 not-requires-2 c κs = search needs
 
 add-and-requires-2 : tie.Need-add-and-requires-2
-add-and-requires-2 c κs = let m = and-most _ _ _ _ _ (c .before .before .before .before .before .add-and .ensures) in omega (arith, m, c .before .before .before .before .before .before .before .before .pre)
+add-and-requires-2 c κs =
+    let at-add-and = c .before .before .before .before .before in
+    let start = at-add-and .before .before .before in
+    let m = and-most _ _ _ _ _ (at-add-and .add-and .ensures) in
+    omega (arith, m, start .pre)
 
 slice-aggregate-add-list : tie.Need-slice-aggregate-add-list
 slice-aggregate-add-list c = search needs
 
 add-list-requires : tie.Need-add-list-requires
-add-list-requires c κs = let m = eq-most _ _ _ _ _ (c .before .before .before .before .before .before .before .before .before .before .add-and .ensures) (c .before .before .before .before .before .before .not .ensures) (c .before .before .before .before .before .not2 .ensures) _ (c .before .before .before .before .add-and2 .ensures) in (omega (arith, m, c .before .before .before .before .before .before .before .before .before .before .before .before .before .pre), search needs)
+add-list-requires c κs =
+    let at-add-and2 = c .before .before .before .before in
+    let at-not2 = at-add-and2 .before in
+    let at-not = at-not2 .before in
+    let at-add-and = at-not .before .before .before .before in
+    let start = at-add-and .before .before .before in
+    let m = eq-most _ _ _ _ _ (at-add-and .add-and .ensures) (at-not .not .ensures) (at-not2 .not2 .ensures) _ (at-add-and2 .add-and2 .ensures) in
+    (omega (arith, m, start .pre), search needs)
 
 same-length : tie.Need-same-length
-same-length c = search needs
+same-length c =
+    let at-add-and2 = c .before .before .before .before .before .before .before in
+    let at-add-and = at-add-and2 .before .before .before .before .before .before in
+    c .before .before .add-list .kept .0 ∙ (at-add-and2 .add-and2 .kept .0 ∙ at-add-and .add-and .kept .0)
 
 returns : tie.Need-returns
-returns c = c .before .before .add-list .ensures ∙ eq-built _ _ _ _ _ (c .before .before .before .before .before .before .before .before .before .before .before .before .before .add-and .ensures) (c .before .before .before .before .before .before .before .before .before .not .ensures) (c .before .before .before .before .before .before .before .before .not2 .ensures) _ (c .before .before .before .before .before .before .before .add-and2 .ensures)
+returns c =
+    let at-add-and2 = c .before .before .before .before .before .before .before in
+    let at-not2 = at-add-and2 .before in
+    let at-not = at-not2 .before in
+    let at-add-and = at-not .before .before .before .before in
+    c .before .before .add-list .ensures ∙ eq-built _ _ _ _ _ (at-add-and .add-and .ensures) (at-not .not .ensures) (at-not2 .not2 .ensures) _ (at-add-and2 .add-and2 .ensures)
 
 pub add-eq-spec : {M : Type 1} → statement M
 add-eq-spec =

@@ -32,7 +32,14 @@ not-if-requires-2 : tie.Need-not-if-requires-2 Inv-loop μ-loop
 not-if-requires-2 c κs = search needs
 
 loop-holds : tie.Need-loop-holds Inv-loop μ-loop
-loop-holds c = (refl, search needs, search needs, refl, first-built (c .before .before .before .before .before .args .trivial) (c .before .before .before .before .before .args .or) (c .before .before .before .before .before .args .rows .now) (c .before .before .before .before .before .args .used) (c .before .before .before .before .before .args .edges .now) (omega arith) (c .not-if2 .ensures))
+loop-holds c =
+    let start = c .before .before .before .before .before in (
+      refl,
+      search needs,
+      search needs,
+      refl,
+      first-built (start .args .trivial) (start .args .or) (start .args .rows .now) (start .args .used) (start .args .edges .now) (omega arith) (c .not-if2 .ensures),
+    )
 
 mul-not-if : tie.Need-mul-not-if Inv-loop μ-loop
 mul-not-if c = search needs
@@ -54,11 +61,18 @@ loop-less c = search needs
 
 loop-again : tie.Need-loop-again Inv-loop μ-loop
 loop-again c =
-    let l = c .before .before .before .before .before .before .before .loop in
-    let a = c .before .before .before .before .before .before .before .before .before .before .before .before .before .args in
+    let at-loop = c .before .before .before .before .before .before .before in
+    let start = at-loop .before .before .before .before .before .before in
+    let l = at-loop .loop in
+    let a = start .args in
     let s = state (l .rows) (l .at) (l .edge) in
-    let m = next-sized (a .trivial) s _ _ (c .before .before .add-step .ensures) in
-    (l .inv .0, search needs, omega (arith, m .most, l .inv .2), m .long ∙ l .inv .3, next-built (a .trivial) (a .or) _ _ (a .edges .now) (l .i) s (l .inv .4) (omega arith) (c .before .before .before .not-if3 .ensures) _ (c .before .before .add-step .ensures))
+    let m = next-sized (a .trivial) s _ _ (c .before .before .add-step .ensures) in (
+      l .inv .0,
+      search needs,
+      omega (arith, m .most, l .inv .2),
+      m .long ∙ l .inv .3,
+      next-built (a .trivial) (a .or) _ _ (a .edges .now) (l .i) s (l .inv .4) (omega arith) (c .before .before .before .not-if3 .ensures) _ (c .before .before .add-step .ensures),
+    )
 
 not-if-requires-4 : tie.Need-not-if-requires-4 Inv-loop μ-loop
 not-if-requires-4 c κs = search needs
@@ -68,8 +82,9 @@ same-length c = search needs
 
 returns-2 : tie.Need-returns-2 Inv-loop μ-loop
 returns-2 c =
+    let start = c .before .before .before .before .before .before .before .before in
     let l = c .before .before .loop in
-    last-built (c .before .before .before .before .before .before .before .before .args .trivial) (c .before .before .before .before .before .before .before .before .args .or) _ _ (c .before .before .before .before .before .before .before .before .args .edges .now) (l .i) (state (l .rows) (l .at) (l .edge)) (l .inv .4) (omega arith) (c .not-if4 .ensures)
+    last-built (start .args .trivial) (start .args .or) _ _ (start .args .edges .now) (l .i) (state (l .rows) (l .at) (l .edge)) (l .inv .4) (omega arith) (c .not-if4 .ensures)
 
 pub add-list-spec : {M : Type 1} → statement M
 add-list-spec =

@@ -45,7 +45,10 @@ is-row-requires : tie.Need-is-row-requires Inv-loop μ-loop
 is-row-requires c κs = search needs
 
 returns : tie.Need-returns Inv-loop μ-loop
-returns c = sym (c .before .before .before .before .before .loop .inv .1 ∙ stops _ _ _ (c .before .before .before .before .loop-test .taken) (sym (c .before .is-row .ensures) ∙ not-true _ (c .if1 .taken)))
+returns c =
+    let at-loop-test = c .before .before .before .before in
+    let at-loop = at-loop-test .before in
+    sym (at-loop .loop .inv .1 ∙ stops _ _ _ (at-loop-test .loop-test .taken) (sym (c .before .is-row .ensures) ∙ not-true _ (c .if1 .taken)))
 
 add-i : tie.Need-add-i Inv-loop μ-loop
 add-i c = search needs
@@ -54,7 +57,10 @@ loop-less : tie.Need-loop-less Inv-loop μ-loop
 loop-less c = search needs
 
 loop-again : tie.Need-loop-again Inv-loop μ-loop
-loop-again c = (search needs, c .before .before .before .before .before .loop .inv .1 ∙ goes-on _ _ _ (c .before .before .before .before .loop-test .taken) (sym (c .before .is-row .ensures) ∙ not-false _ (c .if1 .left)))
+loop-again c =
+    let at-loop-test = c .before .before .before .before in
+    let at-loop = at-loop-test .before in
+    (search needs, at-loop .loop .inv .1 ∙ goes-on _ _ _ (at-loop-test .loop-test .taken) (sym (c .before .is-row .ensures) ∙ not-false _ (c .if1 .left)))
 
 returns-2 : tie.Need-returns-2 Inv-loop μ-loop
 returns-2 c = sym (c .before .loop .inv .1 ∙ ended _ _ _ (c .loop-test .left))

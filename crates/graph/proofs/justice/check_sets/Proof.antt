@@ -26,14 +26,19 @@ abbrev μ-loop : tie.MeasureT-loop
 μ-loop ends sets edges n used answer₀ from s end k₀ answer k = end - k
 
 abbrev Inv-sets : tie.InvT-sets
-Inv-sets ends sets edges n used answer₀ from₀ s₀ answer from s = (s ≤ sets) × (answer ≡ Done) × (from ≡ start ends s) × (firstBad (goodEdge used edges) 0 n ≡ firstBad (goodEdge used edges) from (n - from))
+Inv-sets ends sets edges n used answer₀ from₀ s₀ answer from s =
+    (s ≤ sets) × (answer ≡ Done) × (from ≡ start ends s) × (firstBad (goodEdge used edges) 0 n ≡ firstBad (goodEdge used edges) from (n - from))
 
 abbrev μ-sets : tie.MeasureT-sets
 μ-sets ends sets edges n used answer₀ from₀ s₀ answer from s = sets - s
 
 -- the end of the set is good
-good-end : (c : tie.In-sets Inv-loop μ-loop Inv-sets μ-sets) → End (c .before .before .before .before .args .sets) (c .before .before .before .before .args .n) (c .before .sets .s) (start (c .before .before .before .before .args .ends .now) (c .before .sets .s)) (getD (c .before .before .before .before .args .ends .now) (c .before .sets .s) 0)
-good-end c = end-at (c .before .before .before .before .args .ends .now) (c .before .before .before .before .args .sets) (c .before .before .before .before .args .n) (c .before .before .before .before .pre .1) (c .before .sets .s) (c .sets-test .taken)
+good-end : (c : tie.In-sets Inv-loop μ-loop Inv-sets μ-sets) →
+    let start′ = c .before .before .before .before in
+    End (start′ .args .sets) (start′ .args .n) (c .before .sets .s) (start (start′ .args .ends .now) (c .before .sets .s)) (getD (start′ .args .ends .now) (c .before .sets .s) 0)
+good-end c =
+    let start = c .before .before .before .before in
+    end-at (start .args .ends .now) (start .args .sets) (start .args .n) (start .pre .1) (c .before .sets .s) (c .sets-test .taken)
 
 sets-holds : tie.Need-sets-holds Inv-loop μ-loop Inv-sets μ-sets
 sets-holds c = (search needs, refl, refl, rw sub-zero)
@@ -72,7 +77,14 @@ loop-less : tie.Need-loop-less Inv-loop μ-loop Inv-sets μ-sets
 loop-less c = search needs
 
 loop-again : tie.Need-loop-again Inv-loop μ-loop Inv-sets μ-sets
-loop-again c = (search needs, search needs, c .before .before .before .before .loop .inv .2, c .before .before .before .before .loop .inv .3 ∙ goes-on _ _ _ (omega (arith, good-end (c .before .before .before .before .before .before) .within)) (sym (c .before .is-used .ensures) ∙ not-false _ (c .if1 .left)))
+loop-again c =
+    let at-loop = c .before .before .before .before in
+    let back6 = at-loop .before .before in (
+      search needs,
+      search needs,
+      at-loop .loop .inv .2,
+      at-loop .loop .inv .3 ∙ goes-on _ _ _ (omega (arith, good-end back6 .within)) (sym (c .before .is-used .ensures) ∙ not-false _ (c .if1 .left)),
+    )
 
 add-s : tie.Need-add-s Inv-loop μ-loop Inv-sets μ-sets
 add-s c = search needs
@@ -82,20 +94,29 @@ sets-less c = search needs
 
 sets-again : tie.Need-sets-again Inv-loop μ-loop Inv-sets μ-sets
 sets-again c =
+    let at-sets = c .before .before .before .before in
+    let start = at-sets .before .before .before in
     let k = c .before .loop .inv .3 in
-    (search needs, c .before .loop .inv .2, sym (start-next (c .before .before .before .before .before .before .before .args .ends .now) (c .before .before .before .before .sets .s)), rw (← (le-antisymm (c .before .loop .inv .1) (c .loop-test .left))) k)
+    (search needs, c .before .loop .inv .2, sym (start-next (start .args .ends .now) (at-sets .sets .s)), rw (← (le-antisymm (c .before .loop .inv .1) (c .loop-test .left))) k)
 
 returns : tie.Need-returns Inv-loop μ-loop Inv-sets μ-sets
 returns c =
+    let start = c .before .before .before .before in
     let done = le-antisymm (c .before .sets .inv .0) (c .sets-test .left) in
-    let all = c .before .sets .inv .2 ∙ covered (c .before .before .before .before .args .ends .now) (c .before .before .before .before .args .sets) (c .before .before .before .before .args .n) (c .before .before .before .before .pre .1) (c .before .sets .s) (c .before .before .before .before .pre .0 .2) done in
+    let all = c .before .sets .inv .2 ∙ covered (start .args .ends .now) (start .args .sets) (start .args .n) (start .pre .1) (c .before .sets .s) (start .pre .0 .2) done in
     ap told (c .before .sets .inv .1) ∙ sym (stage-goes _ _ (c .before .sets .inv .3 ∙ ended _ _ _ (omega (arith, all))) ∙ none-left)
 
 returns-2 : tie.Need-returns-2 Inv-loop μ-loop Inv-sets μ-sets
 returns-2 c =
-    let here = set-of (c .before .before .before .before .before .before .before .before .before .before .args .ends .now) (c .before .before .before .before .before .before .before .before .before .before .args .sets) (c .before .before .before .before .before .before .before .before .before .before .args .n) (c .before .before .before .before .before .before .before .before .before .before .pre .1) (c .before .before .before .before .before .before .before .sets .s) (c .before .before .before .before .loop .k) (c .before .before .before .before .before .before .sets-test .taken) (omega (arith, c .before .before .before .before .before .before .before .sets .inv .2)) (c .before .before .before .loop-test .taken) in
-    let first = c .before .before .before .before .loop .inv .3 ∙ stops _ _ _ (omega (arith, good-end (c .before .before .before .before .before .before) .within)) (sym (c .before .is-used .ensures) ∙ not-true _ (c .if1 .taken)) in
-    sym (stage-stops (setStage (c .before .before .before .before .before .before .before .before .before .before .args .used) (c .before .before .before .before .before .before .before .before .before .before .args .ends .now) (c .before .before .before .before .before .before .before .before .before .before .args .sets) (c .before .before .before .before .before .before .before .before .before .before .args .edges .now) (c .before .before .before .before .before .before .before .before .before .before .args .n)) _ first ∙ rw (here, ← (c .before .before .before .before .before .before .before .sets .inv .2)) refl)
+    let at-loop = c .before .before .before .before in
+    let at-sets-test = at-loop .before .before in
+    let at-sets = at-sets-test .before in
+    let start = at-sets .before .before .before in
+    let here = set-of (start .args .ends .now) (start .args .sets) (start .args .n) (start .pre .1) (at-sets .sets .s) (at-loop .loop .k) (at-sets-test .sets-test .taken)
+    (omega (arith, at-sets .sets .inv .2)) (c .before .before .before .loop-test .taken) in
+    let first = at-loop .loop .inv .3 ∙ stops _ _ _ (omega (arith, good-end at-sets-test .within)) (sym (c .before .is-used .ensures) ∙ not-true _ (c .if1 .taken)) in
+    sym
+    (stage-stops (setStage (start .args .used) (start .args .ends .now) (start .args .sets) (start .args .edges .now) (start .args .n)) _ first ∙ rw (here, ← (at-sets .sets .inv .2)) refl)
 
 pub check-sets-spec : {M : Type 1} → statement M
 check-sets-spec =

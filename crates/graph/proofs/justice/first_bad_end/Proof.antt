@@ -20,7 +20,9 @@ abbrev μ-loop : tie.MeasureT-loop
 μ-loop ends sets edges before₀ s₀ before s = sets - s
 
 -- the test is of the end before
-judged : (c : tie.After-is-end Inv-loop μ-loop) → c .is-end .result ≡ goodEnd (c .before .before .before .before .before .args .ends .now) (c .before .before .before .before .before .args .sets) (c .before .before .before .before .before .args .edges) (c .before .before .before .loop .s)
+judged : (c : tie.After-is-end Inv-loop μ-loop) →
+    let start = c .before .before .before .before .before in
+    c .is-end .result ≡ goodEnd (start .args .ends .now) (start .args .sets) (start .args .edges) (c .before .before .before .loop .s)
 judged c = rw (← (c .before .before .before .loop .inv .1)) (c .is-end .ensures)
 
 loop-holds : tie.Need-loop-holds Inv-loop μ-loop
@@ -48,7 +50,13 @@ loop-less : tie.Need-loop-less Inv-loop μ-loop
 loop-less c = search needs
 
 loop-again : tie.Need-loop-again Inv-loop μ-loop
-loop-again c = (search needs, sym (start-next (c .before .before .before .before .before .before .args .ends .now) (c .before .before .before .before .loop .s)), c .before .before .before .before .loop .inv .2 ∙ goes-on _ _ _ (c .before .before .before .loop-test .taken) (sym (judged (c .before)) ∙ not-false _ (c .if1 .left)))
+loop-again c =
+    let at-loop = c .before .before .before .before in
+    let start = at-loop .before .before in (
+      search needs,
+      sym (start-next (start .args .ends .now) (at-loop .loop .s)),
+      at-loop .loop .inv .2 ∙ goes-on _ _ _ (c .before .before .before .loop-test .taken) (sym (judged (c .before)) ∙ not-false _ (c .if1 .left)),
+    )
 
 returns-2 : tie.Need-returns-2 Inv-loop μ-loop
 returns-2 c = sym (c .before .loop .inv .2 ∙ ended _ _ _ (c .loop-test .left))

@@ -2,7 +2,7 @@
 -- Assumes nothing.
 use mathlib.Core.Path.{refl, sym}
 use borrow.Author.Tests.{lt-ltb, le-ltb}
-use Rattle.graph.specs.Leaves.{unmarkedLeaf}
+use Rattle.graph.specs.Steps.{unmarkedLeaf}
 use borrow.Author.Needs.{needs}
 use Rattle.graph.proofs.leaves.claim.Statement.{statement}
 use Rattle.graph.proofs.leaves.claim.Tie as tie

@@ -34,7 +34,23 @@ fits-requires-8 c κs = search needs
 
 returns : tie.Need-returns
 unfolding sizesRight
-returns c = simp (c .before .before .before .before .before .before .before .before .before .rows-fit .ensures, c .before .before .before .before .before .before .before .fits2 .ensures, c .before .before .before .before .before .before .fits3 .ensures, c .before .before .before .before .before .fits4 .ensures, c .before .before .before .before .fits5 .ensures, c .before .before .before .fits6 .ensures, c .before .before .fits7 .ensures, c .before .fits8 .ensures, c .fits9 .ensures)
+returns c =
+    let at-fits5 = c .before .before .before .before in
+    let at-fits4 = at-fits5 .before in
+    let at-fits3 = at-fits4 .before in
+    let at-fits2 = at-fits3 .before in
+    let at-rows-fit = at-fits2 .before .before in
+    simp (
+      at-rows-fit .rows-fit .ensures,
+      at-fits2 .fits2 .ensures,
+      at-fits3 .fits3 .ensures,
+      at-fits4 .fits4 .ensures,
+      at-fits5 .fits5 .ensures,
+      c .before .before .before .fits6 .ensures,
+      c .before .before .fits7 .ensures,
+      c .before .fits8 .ensures,
+      c .fits9 .ensures,
+    )
 
 pub sizes-spec : {M : Type 1} → statement M
 sizes-spec =

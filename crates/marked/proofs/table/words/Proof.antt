@@ -1,8 +1,8 @@
 -- `marked::table::words` meets its contract: the words are those of the table, by computation.
 -- Assumes nothing.
 use mathlib.Core.Path.{refl}
-use Rattle.lend_words.specs.Words.{givenWords, countWords}
-use Rattle.shapes.specs.Shapes.{words}
+use Rattle.sulandiro_words.specs.Words.{givenWords, countWords}
+use Rattle.gate_clauses.specs.Shapes.{words}
 use Rattle.marked.specs.Table.{table}
 use Rattle.marked.specs.Words.{encoded}
 use Rattle.marked.proofs.table.words.Statement.{statement}

@@ -1,7 +1,6 @@
 -- `marked_run::seen::say_words` is safe and ends. The measure is the number of words that are left.
 -- Assumes nothing.
 use Prim.Native.Nat.{_-_, _≤_}
-use lib.ListN.{length}
 use borrow.Author.Needs.{needs}
 use Rattle.marked_run.proofs.seen.say_words.Statement.{statement}
 use Rattle.marked_run.proofs.seen.say_words.Tie as tie

@@ -20,8 +20,9 @@ graph c =
 returns : tie.Need-returns
 unfolding graph compressChecked
 returns c =
-    let o = (c .before .before .before .before .before .before .before .before .before .before .before .before) .args .old .now in
-    limit-passed (leb (length o) maxEntries) (compressRoom (graph (c .before .before .before .before .before .before .before .before .before .before .before .before)) o) (graph (c .before .before .before .before .before .before .before .before .before .before .before .before)) ((c .before .before .before .before .before .before .before .before .before .before .before .before) .args .marks .now) (lt-leb (length o) maxEntries (c .if1 .taken))
+    let back12 = c .before .before .before .before .before .before .before .before .before .before .before .before in
+    let o = back12 .args .old .now in
+    limit-passed (leb (length o) maxEntries) (compressRoom (graph back12) o) (graph back12) (back12 .args .marks .now) (lt-leb (length o) maxEntries (c .if1 .taken))
 
 check-requires : tie.Need-check-requires
 check-requires c κs = search needs
@@ -30,38 +31,56 @@ is-done-requires : tie.Need-is-done-requires
 is-done-requires c κs = search needs
 
 same-length : tie.Need-same-length
-same-length c = search needs
+same-length c = c .before .before .before .before .check .kept .1 .1 .1 .1 .1 .1 .1 .1 .1 .1 .0
 
 returns-2 : tie.Need-returns-2
 unfolding graph compressChecked
 returns-2 c =
-    let o = (c .before .before .before .before .before .before .before .before .before .before .before .before .before .before .before .before .before .before) .args .old .now in
-    check-stops (leb (length o) maxEntries) (compressRoom (graph (c .before .before .before .before .before .before .before .before .before .before .before .before .before .before .before .before .before .before)) o) (graph (c .before .before .before .before .before .before .before .before .before .before .before .before .before .before .before .before .before .before)) ((c .before .before .before .before .before .before .before .before .before .before .before .before .before .before .before .before .before .before) .args .marks .now) (le-leb (length o) maxEntries (c .before .before .before .before .before .before .if1 .left)) (c .before .before .before .before .check .result) (c .before .before .before .before .check .ensures) (c .before .is-done .ensures) (c .if2 .taken)
+    let at-check = c .before .before .before .before in
+    let at-if1 = at-check .before .before in
+    let back18 = at-if1 .before .before .before .before .before .before .before .before .before .before .before .before in
+    let o = back18 .args .old .now in
+    check-stops (leb (length o) maxEntries) (compressRoom (graph back18) o) (graph back18) (back18 .args .marks .now) (le-leb (length o) maxEntries (at-if1 .if1 .left))
+    (at-check .check .result) (at-check .check .ensures) (c .before .is-done .ensures) (c .if2 .taken)
 
 rows-of-or-requires : tie.Need-rows-of-or-requires
 unfolding graph
 rows-of-or-requires c κs =
-    let o = (c .before .before .before .before .before .before .before .before .before .before .before .before .before .before .before .before .before .before) .args .old .now in
-    let r = check-right (leb (length o) maxEntries) (compressRoom (graph (c .before .before .before .before .before .before .before .before .before .before .before .before .before .before .before .before .before .before)) o) (graph (c .before .before .before .before .before .before .before .before .before .before .before .before .before .before .before .before .before .before)) ((c .before .before .before .before .before .before .before .before .before .before .before .before .before .before .before .before .before .before) .args .marks .now) (le-leb (length o) maxEntries (c .before .before .before .before .before .before .if1 .left)) (c .before .before .before .before .check .result) (c .before .before .before .before .check .ensures) (c .before .is-done .ensures) (c .if2 .left) in
-    or-ready (graph (c .before .before .before .before .before .before .before .before .before .before .before .before .before .before .before .before .before .before)) _ (r .0)
+    let at-check = c .before .before .before .before in
+    let at-if1 = at-check .before .before in
+    let back18 = at-if1 .before .before .before .before .before .before .before .before .before .before .before .before in
+    let o = back18 .args .old .now in
+    let r = check-right (leb (length o) maxEntries) (compressRoom (graph back18) o) (graph back18) (back18 .args .marks .now) (le-leb (length o) maxEntries (at-if1 .if1 .left))
+    (at-check .check .result) (at-check .check .ensures) (c .before .is-done .ensures) (c .if2 .left) in
+    or-ready (graph back18) _ (r .0)
 
 same-length-2 : tie.Need-same-length-2
-same-length-2 c = search needs
+same-length-2 c = c .before .before .before .before .before .before .check .kept .1 .1 .1 .1 .1 .1 .1 .1 .1 .1 .0
 
 returns-3 : tie.Need-returns-3
 unfolding graph compressChecked
 returns-3 c =
-    let o = (c .before .before .before .before .before .before .before .before .before .before .before .before .before .before .before .before .before .before .before .before) .args .old .now in
-    check-room (leb (length o) maxEntries) (compressRoom (graph (c .before .before .before .before .before .before .before .before .before .before .before .before .before .before .before .before .before .before .before .before)) o) (graph (c .before .before .before .before .before .before .before .before .before .before .before .before .before .before .before .before .before .before .before .before)) ((c .before .before .before .before .before .before .before .before .before .before .before .before .before .before .before .before .before .before .before .before) .args .marks .now) (le-leb (length o) maxEntries (c .before .before .before .before .before .before .before .before .if1 .left)) (c .before .before .before .before .before .before .check .result) (c .before .before .before .before .before .before .check .ensures) (c .before .before .before .is-done .ensures) (c .before .before .if2 .left) (or-room (graph (c .before .before .before .before .before .before .before .before .before .before .before .before .before .before .before .before .before .before .before .before)) o (c .before .rows-of-or .ensures) (c .if3 .taken))
+    let at-check = c .before .before .before .before .before .before in
+    let at-if1 = at-check .before .before in
+    let back20 = at-if1 .before .before .before .before .before .before .before .before .before .before .before .before in
+    let o = back20 .args .old .now in
+    check-room (leb (length o) maxEntries) (compressRoom (graph back20) o) (graph back20) (back20 .args .marks .now) (le-leb (length o) maxEntries (at-if1 .if1 .left))
+    (at-check .check .result) (at-check .check .ensures) (c .before .before .before .is-done .ensures) (c .before .before .if2 .left)
+    (or-room (graph back20) o (c .before .rows-of-or .ensures) (c .if3 .taken))
 
 same-length-3 : tie.Need-same-length-3
-same-length-3 c = search needs
+same-length-3 c = c .before .before .before .before .before .before .check .kept .1 .1 .1 .1 .1 .1 .1 .1 .1 .1 .0
 
 returns-4 : tie.Need-returns-4
 unfolding graph compressChecked
 returns-4 c =
-    let o = (c .before .before .before .before .before .before .before .before .before .before .before .before .before .before .before .before .before .before .before .before) .args .old .now in
-    check-full (leb (length o) maxEntries) (compressRoom (graph (c .before .before .before .before .before .before .before .before .before .before .before .before .before .before .before .before .before .before .before .before)) o) (graph (c .before .before .before .before .before .before .before .before .before .before .before .before .before .before .before .before .before .before .before .before)) ((c .before .before .before .before .before .before .before .before .before .before .before .before .before .before .before .before .before .before .before .before) .args .marks .now) (le-leb (length o) maxEntries (c .before .before .before .before .before .before .before .before .if1 .left)) (c .before .before .before .before .before .before .check .result) (c .before .before .before .before .before .before .check .ensures) (c .before .before .before .is-done .ensures) (c .before .before .if2 .left) (or-room (graph (c .before .before .before .before .before .before .before .before .before .before .before .before .before .before .before .before .before .before .before .before)) o (c .before .rows-of-or .ensures) (c .if3 .left))
+    let at-check = c .before .before .before .before .before .before in
+    let at-if1 = at-check .before .before in
+    let back20 = at-if1 .before .before .before .before .before .before .before .before .before .before .before .before in
+    let o = back20 .args .old .now in
+    check-full (leb (length o) maxEntries) (compressRoom (graph back20) o) (graph back20) (back20 .args .marks .now) (le-leb (length o) maxEntries (at-if1 .if1 .left))
+    (at-check .check .result) (at-check .check .ensures) (c .before .before .before .is-done .ensures) (c .before .before .if2 .left)
+    (or-room (graph back20) o (c .before .rows-of-or .ensures) (c .if3 .left))
 
 pub checked-spec : {M : Type 1} → statement M
 checked-spec =

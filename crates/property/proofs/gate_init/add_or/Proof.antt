@@ -18,10 +18,13 @@ not-requires-3 : tie.Need-not-requires-3
 not-requires-3 c κs = search needs
 
 same-length : tie.Need-same-length
-same-length c = search needs
+same-length c = c .before .before .before .add-and .kept .0
 
 returns : tie.Need-returns
-returns c = or-built _ _ _ _ _ (c .before .before .before .before .before .not .ensures) (c .before .before .before .before .not2 .ensures) (c .before .before .before .add-and .ensures) (c .not3 .ensures)
+returns c =
+    let at-not2 = c .before .before .before .before in
+    let at-not = at-not2 .before in
+    or-built _ _ _ _ _ (at-not .not .ensures) (at-not2 .not2 .ensures) (c .before .before .before .add-and .ensures) (c .not3 .ensures)
 
 pub add-or-spec : {M : Type 1} → statement M
 add-or-spec =

@@ -5,7 +5,7 @@ use native.Mathlib.Omega.{arith}
 use native.Mathlib.Nat.{le-antisymm}
 use mathlib.Core.Path.{_≡_, sym}
 use mathlib.Core.Bool.{false}
-use Rattle.property.specs.GateInit.{anyGated}
+use Rattle.property.specs.Steps.{anyGated}
 use Rattle.property.proofs.Gating.{any-start, any-turn, any-found}
 use borrow.Author.Needs.{needs}
 use Rattle.property.proofs.gate_init.any_gated.Statement.{statement}
@@ -28,8 +28,12 @@ is-gated-requires c κs = search needs
 
 returns : tie.Need-returns Inv-loop μ-loop
 returns c =
-    let a = c .before .before .before .before .before .before .args in
-    sym (any-found (a .latches .now) (a .n) (c .before .before .before .before .loop .j) (c .before .before .before .loop-test .taken) (c .before .before .latch-at .ensures) (c .before .is-gated .ensures) (c .if1 .taken))
+    let at-loop = c .before .before .before .before in
+    let start = at-loop .before .before in
+    let a = start .args in
+    sym
+    (any-found (a .latches .now) (a .n) (at-loop .loop .j) (c .before .before .before .loop-test .taken) (c .before .before .latch-at .ensures) (c .before .is-gated .ensures)
+    (c .if1 .taken))
 
 add-j : tie.Need-add-j Inv-loop μ-loop
 add-j c = search needs
@@ -39,8 +43,10 @@ loop-less c = search needs
 
 loop-again : tie.Need-loop-again Inv-loop μ-loop
 loop-again c =
-    let l = c .before .before .before .before .loop in
-    (search needs, any-turn (c .before .before .before .before .before .before .args .latches .now) (l .j) (l .inv .1) (c .before .before .latch-at .ensures) (c .before .is-gated .ensures) (c .if1 .left))
+    let l = c .before .before .before .before .loop in (
+      search needs,
+      any-turn (c .before .before .before .before .before .before .args .latches .now) (l .j) (l .inv .1) (c .before .before .latch-at .ensures) (c .before .is-gated .ensures) (c .if1 .left),
+    )
 
 returns-2 : tie.Need-returns-2 Inv-loop μ-loop
 returns-2 c = sym (rw (le-antisymm (c .before .loop .inv .0) (c .loop-test .left)) at (c .before .loop .inv .1))

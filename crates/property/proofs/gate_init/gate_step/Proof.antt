@@ -24,15 +24,20 @@ add-t15 : tie.Need-add-t15
 add-t15 c = search needs
 
 same-length : tie.Need-same-length
-same-length c = search needs
+same-length c = c .before .before .before .before .before .before .add-constraint .kept .0
 
 same-length-2 : tie.Need-same-length-2
-same-length-2 c = search needs
+same-length-2 c = c .before .before .put .kept .0
 
 returns-2 : tie.Need-returns-2
 returns-2 c =
-    let a = (c .before .before .before .before .before .before .before .before .before .before .before .before) .args in
-    step-made (a .new) (gating (a .rows .now) (a .used) (a .constraints .now) (a .count)) (a .l) (c .before .before .before .before .before .before .before .before .before .is-gated .ensures) (c .before .before .before .before .before .before .before .before .if1 .left) _ _ (c .before .before .before .before .before .before .add-constraint .ensures) (c .before .before .put .ensures)
+    let at-add-constraint = c .before .before .before .before .before .before in
+    let at-if1 = at-add-constraint .before .before in
+    let at-is-gated = at-if1 .before in
+    let back12 = at-is-gated .before .before .before in
+    let a = back12 .args in
+    step-made (a .new) (gating (a .rows .now) (a .used) (a .constraints .now) (a .count)) (a .l) (at-is-gated .is-gated .ensures) (at-if1 .if1 .left) _ _
+    (at-add-constraint .add-constraint .ensures) (c .before .before .put .ensures)
 
 pub gate-step-spec : {M : Type 1} → statement M
 gate-step-spec =

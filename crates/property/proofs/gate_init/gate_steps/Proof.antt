@@ -28,9 +28,12 @@ latch-at-requires c κs = omega (arith, (c .before .before .before .before .befo
 
 gate-step-requires : tie.Need-gate-step-requires Inv-loop μ-loop
 gate-step-requires c κs =
-    let p = (c .before .before .before .before .before .before .before .before) .pre in
+    let at-loop = c .before .before .before .before in
+    let back8 = at-loop .before .before .before .before in
+    let p = back8 .pre in
     record {
-      constraint = record { few = omega (arith, p .few, p .limited); row = p .row; input = rw (c .before .latch-at .ensures) (p .inputs (c .before .before .before .before .loop .j) (c .before .before .before .loop-test .taken)) };
+      constraint = record
+          { few = omega (arith, p .few, p .limited); row = p .row; input = rw (c .before .latch-at .ensures) (p .inputs (at-loop .loop .j) (c .before .before .before .loop-test .taken)) };
       more = omega (arith, p .more, p .limited);
     }
 
@@ -45,8 +48,15 @@ loop-again c =
     let a = (c .before .before .before .before .before .before .before .before .before .before .before .before .before) .args in
     let l = c .before .before .before .before .before .before .before .before .before .loop in
     let s = gating (l .rows) (l .at) (l .constraints) (l .k) in
-    let b = turn-bounded (a .new) s _ _ (c .before .before .before .before .gate-step .ensures) in
-    (search needs, omega (arith, b .most, l .inv .1), omega (arith, b .few, l .inv .2), b .long ∙ l .inv .3, b .listed ∙ l .inv .4, steps-turn (a .new) (a .latches .now) (gating (a .rows .now) (a .used) (a .constraints .now) (a .count)) (l .j) (l .inv .5) (c .before .before .before .before .before .before .latch-at .ensures) (c .before .before .before .before .gate-step .ensures))
+    let b = turn-bounded (a .new) s _ _ (c .before .before .before .before .gate-step .ensures) in (
+      search needs,
+      omega (arith, b .most, l .inv .1),
+      omega (arith, b .few, l .inv .2),
+      b .long ∙ l .inv .3,
+      b .listed ∙ l .inv .4,
+      steps-turn (a .new) (a .latches .now) (gating (a .rows .now) (a .used) (a .constraints .now) (a .count)) (l .j) (l .inv .5)
+          (c .before .before .before .before .before .before .latch-at .ensures) (c .before .before .before .before .gate-step .ensures),
+    )
 
 same-length : tie.Need-same-length Inv-loop μ-loop
 same-length c = search needs

@@ -37,7 +37,13 @@ loop-less : tie.Need-loop-less Inv-loop μ-loop
 loop-less c = search needs
 
 loop-again : tie.Need-loop-again Inv-loop μ-loop
-loop-again c = (search needs, search needs, inits-turn ((c .before .before .before .before .before .before .before .before .before .before) .args .latches .now) (c .before .before .before .before .before .before .before .before .loop .j) (c .before .before .before .before .before .before .before .before .loop .inv .2) (c .before .before .before .before .before .latch-at .ensures) (c .before .before .before .before .initless .ensures) (c .before .before .write-latch .ensures))
+loop-again c = (
+  search needs,
+  search needs,
+  inits-turn ((c .before .before .before .before .before .before .before .before .before .before) .args .latches .now)
+      (c .before .before .before .before .before .before .before .before .loop .j) (c .before .before .before .before .before .before .before .before .loop .inv .2)
+      (c .before .before .before .before .before .latch-at .ensures) (c .before .before .before .before .initless .ensures) (c .before .before .write-latch .ensures),
+)
 
 same-length : tie.Need-same-length Inv-loop μ-loop
 same-length c = search needs

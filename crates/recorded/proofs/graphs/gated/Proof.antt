@@ -8,8 +8,8 @@ use Rattle.recorded.proofs.graphs.gated.Tie as tie
 new-requires : tie.Need-new-requires
 new-requires c κs = search needs
 
-new-input-requires : tie.Need-new-input-requires
-new-input-requires c κs = search needs
+listed-input-requires : tie.Need-listed-input-requires
+listed-input-requires c κs = search needs
 
 new-leaf-node-requires : tie.Need-new-leaf-node-requires
 new-leaf-node-requires c κs = search needs
@@ -21,7 +21,12 @@ add-latch-requires : tie.Need-add-latch-requires
 add-latch-requires c κs = search needs
 
 same-length : tie.Need-same-length
-same-length c = c .before .before .before .before .before .before .before .before .new-and-node .kept .0 ∙ (c .before .before .before .before .before .before .before .before .before .before .before .before .new-leaf-node .kept .0 ∙ (c .before .before .before .before .before .before .before .before .before .before .before .before .before .before .before .before .before .before .new-input .kept .0 ∙ c .before .before .before .before .before .before .before .before .before .before .before .before .before .before .before .before .before .before .before .before .before .before .before .new .kept .0))
+same-length c =
+    let at-new-and-node = c .before .before .before .before .before .before .before .before in
+    let at-new-leaf-node = at-new-and-node .before .before .before .before in
+    let at-listed-input = at-new-leaf-node .before .before .before .before .before .before in
+    let at-new = at-listed-input .before .before .before .before .before in
+    at-new-and-node .new-and-node .kept .0 ∙ (at-new-leaf-node .new-leaf-node .kept .0 ∙ (at-listed-input .listed-input .kept .0 ∙ at-new .new .kept .0))
 
 same-length-2 : tie.Need-same-length-2
 same-length-2 c = search needs
@@ -37,7 +42,7 @@ gated-spec =
     tie.close
     (tie.spec
     new-requires
-    new-input-requires
+    listed-input-requires
     new-leaf-node-requires
     new-and-node-requires
     add-latch-requires

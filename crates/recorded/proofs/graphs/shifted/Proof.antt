@@ -18,7 +18,12 @@ new-latch-requires-2 : tie.Need-new-latch-requires-2
 new-latch-requires-2 c κs = search needs
 
 same-length : tie.Need-same-length
-same-length c = c .before .before .before .before .before .new-latch2 .kept .0 ∙ (c .before .before .before .before .before .before .before .before .before .before .before .before .new-latch .kept .0 ∙ (c .before .before .before .before .before .before .before .before .before .before .before .before .before .before .before .before .before .before .before .new-input .kept .0 ∙ c .before .before .before .before .before .before .before .before .before .before .before .before .before .before .before .before .before .before .before .before .before .before .before .before .new .kept .0))
+same-length c =
+    let at-new-latch2 = c .before .before .before .before .before in
+    let at-new-latch = at-new-latch2 .before .before .before .before .before .before .before in
+    let at-new-input = at-new-latch .before .before .before .before .before .before .before in
+    let at-new = at-new-input .before .before .before .before .before in
+    at-new-latch2 .new-latch2 .kept .0 ∙ (at-new-latch .new-latch .kept .0 ∙ (at-new-input .new-input .kept .0 ∙ at-new .new .kept .0))
 
 same-length-2 : tie.Need-same-length-2
 same-length-2 c = search needs

@@ -1,6 +1,7 @@
 -- `records::by_lending::add_latch` meets its contract.
 -- Assumes nothing.
--- A walk of its code by hand: the record is copied to a local in memory, which is lent to `counts::add_latch` for a lifetime that is made for the call, and comes back at the counts that were left there.
+-- A walk of its code by hand: the record is copied to a local in memory, which is lent to `counts::add_latch` for a lifetime that is made for the call, and comes back at the counts that
+-- were left there.
 -- A comment in brackets is the context at that point: _i is local i, … what lets a local die, or nothing.
 use mathlib.Core.Path.{_≡_, refl, ap}
 use Prim.Native.Nat.{ℕ}
@@ -44,15 +45,15 @@ use denote.Triple.Clauses.{ensured, lasts}
 use denote.Triple.Table.{entered, cited}
 use denote.Triple.Walked.{says, Stays, gave-slice, stay-dropped, walkOf, AllGo, goes-gave-slice, goes-dropped, Walks, ends-at, walked, walk-meets}
 use denote.Exit.{yes}
-use Rattle.build.specs.Calls.{addedSeen}
-use Rattle.build.specs.Leaves.{addLatchCall}
+use Rattle.build_leaves.specs.Calls.{addedSeen}
+use Rattle.build_latches.specs.Latches.{addLatchCall}
 use Rattle.graph.specs.declared.Counts.{Counts}
 use Rattle.records.specs.declared.counts.Listed.{Listed}
 use Rattle.records.specs.Counts.{added}
 use Rattle.graph.proofs.Counts as K
 use Rattle.graph.proofs.Counts.Laws as K′
-use Rattle.build.proofs.calls.Added as D
-use Rattle.build.proofs.calls.Added.Laws as D′
+use Rattle.build_leaves.proofs.calls.Added as D
+use Rattle.build_leaves.proofs.calls.Added.Laws as D′
 use Rattle.records.proofs.counts.Listed as R
 use Rattle.records.proofs.counts.Listed.Laws as R′
 use Rattle.records.proofs.Listing.{K-vals, D-vals, joined, lies}
@@ -66,20 +67,30 @@ use Rattle.records.proofs.by_lending.add_latch.Statement as stated
 use Rattle.records.proofs.by_lending.add_latch.Code as code
 
 abbrev stayed : Stays (f.ended .signature .params) (f.ended .kept)
-stayed = (stay-dropped (shrSliceOf (0 ∷ []) tt (plain (λ _. u32))) yes, (gave-slice (1 ∷ []) tt (plain (λ _. u32)), (stay-dropped (plain (λ _. K.the-row)) yes, (stay-dropped (plain (λ _. u32)) yes, (stay-dropped (plain (λ _. u32)) yes, (stay-dropped (plain (λ _. u32)) yes, tt))))))
+stayed = (
+  stay-dropped (shrSliceOf (0 ∷ []) tt (plain (λ _. u32))) yes,
+  (
+    gave-slice (1 ∷ []) tt (plain (λ _. u32)),
+    (stay-dropped (plain (λ _. K.the-row)) yes, (stay-dropped (plain (λ _. u32)) yes, (stay-dropped (plain (λ _. u32)) yes, (stay-dropped (plain (λ _. u32)) yes, tt)))),
+  ),
+)
 
 -- the contract that the proof cites
 abbrev Callee : {M : Type 1} (𝓤 : URA M) (H : Heap 𝓤) (A : Atoms 𝓤) (mem : Memory → SProp 𝓤) (run : Routine → Fun 𝓤) → Contract 𝓤
 Callee 𝓤 H A mem run = tripleOf 𝓤 H A g.signature (g.spec 𝓤 H A mem run)
 
-module _ {M : Type 1} (𝓤 : URA M) (H : Heap 𝓤) (A : Atoms 𝓤) (W : Given 𝓤 H A) (at-mem : Memory → SProp 𝓤) (run : Routine → Fun 𝓤)
-    (κ₀ κ₁ : Lft) (q₀ q₁ : Share) (rows latches : RefT (List ℕ)) (counts : Counts) (id next-edge init-edge : ℕ)
-    (rows-fits : Room u32 (length (rows .now))) (latches-fits : Room u32 (length (latches .now))) (counts-fits : Is K.the-row counts (K-vals counts)) (id-fits : Is u32 id (vint w32 id ∷ [])) (next-edge-fits : Is u32 next-edge (vint w32 next-edge ∷ [])) (init-edge-fits : Is u32 init-edge (vint w32 init-edge ∷ [])) where
+module _ {M : Type 1} (𝓤 : URA M) (H : Heap 𝓤) (A : Atoms 𝓤) (W : Given 𝓤 H A) (at-mem : Memory → SProp 𝓤) (run : Routine → Fun 𝓤) (κ₀ κ₁ : Lft) (q₀ q₁ : Share)
+    (rows latches : RefT (List ℕ)) (counts : Counts) (id next-edge init-edge : ℕ) (rows-fits : Room u32 (length (rows .now))) (latches-fits : Room u32 (length (latches .now)))
+    (counts-fits : Is K.the-row counts (K-vals counts)) (id-fits : Is u32 id (vint w32 id ∷ [])) (next-edge-fits : Is u32 next-edge (vint w32 next-edge ∷ []))
+    (init-edge-fits : Is u32 init-edge (vint w32 init-edge ∷ [])) where
   abbrev x : RefT (List ℕ) × (RefT (List ℕ) × (Counts × (ℕ × (ℕ × (ℕ × Unit {0})))))
   x = (rows, (latches, (counts, (id, (next-edge, (init-edge, tt))))))
 
   abbrev at : List Val × (List Val × (List Val × (List Val × (List Val × (List Val × Unit {0})))))
-  at = (sliceVal (rows .ptr) (length (rows .now)) ∷ [], (sliceVal (latches .ptr) (length (latches .now)) ∷ [], (K-vals counts, (vint w32 id ∷ [], (vint w32 next-edge ∷ [], (vint w32 init-edge ∷ [], tt))))))
+  at = (
+    sliceVal (rows .ptr) (length (rows .now)) ∷ [],
+    (sliceVal (latches .ptr) (length (latches .now)) ∷ [], (K-vals counts, (vint w32 id ∷ [], (vint w32 next-edge ∷ [], (vint w32 init-edge ∷ [], tt))))),
+  )
 
   abbrev vs : List Val
   vs = sliceVal (rows .ptr) (length (rows .now)) ∷ sliceVal (latches .ptr) (length (latches .now)) ∷ only (K-vals counts) ∷ vint w32 id ∷ vint w32 next-edge ∷ vint w32 init-edge ∷ []
@@ -97,10 +108,11 @@ module _ {M : Type 1} (𝓤 : URA M) (H : Heap 𝓤) (A : Atoms 𝓤) (W : Given
   exits : (r : Listed) (c : Counts) (latches′ : List ℕ) → Says r c latches′ → length latches′ ≡ length (latches .now) → Is D.the-row (added r c) (D-vals (added r c))
       → ent 𝓤 (⋆ 𝓤 H A (‵ (flft κ₀ q₀) ∷ ‵ (flft κ₁ q₁) ∷ ‵ (finally u32 (latches .name) latches′) ∷ [])) (Post (only (D-vals (added r c))))
   exits r c latches′ e len-latches is =
-      qed W (‵ (flft κ₀ q₀) ∷ ‵ (flft κ₁ q₁) ∷ ‵ (finally u32 (latches .name) latches′) ∷ []) ∵
-      suffices ! _ (ends-at 𝓤 H A f.ended stayed (f.clauses 𝓤 H A at-mem run) W bound (only (D-vals (added r c))) (added r c) (tt, (latches′, (tt, (tt, (tt, (tt, tt)))))) (tt, (len-latches, (tt, (tt, (tt, (tt, tt))))))) $
-      says ! e $ nothing ! $ move ! (2 ∷ 0 ∷ []) $ join ! $ move ! (1 ∷ 0 ∷ []) $ join ! $ frame ! $ nothing ! $ nothing ! $ fjoin ! $ nothing ! $ fjoin ! $ nothing ! $ fjoin ! $ nothing ! $ fjoin ! $ move ! (1 ∷ 0 ∷ []) $ fjoin ! $ nothing ! $ fjoin ! $
-      owned ! D.the-row (Is D.the-row) (LL.makes D.the-type D′.the-plain 𝓤 H A) (added r c) _ is $ move ! (1 ∷ 0 ∷ []) $ done !
+      qed W (‵ (flft κ₀ q₀) ∷ ‵ (flft κ₁ q₁) ∷ ‵ (finally u32 (latches .name) latches′) ∷ []) ∵ suffices ! _
+      (ends-at 𝓤 H A f.ended stayed (f.clauses 𝓤 H A at-mem run) W bound (only (D-vals (added r c))) (added r c) (tt, (latches′, (tt, (tt, (tt, (tt, tt))))))
+      (tt, (len-latches, (tt, (tt, (tt, (tt, tt))))))) $ says ! e $ nothing ! $ move ! (2 ∷ 0 ∷ []) $ join ! $ move ! (1 ∷ 0 ∷ []) $ join ! $ frame ! $ nothing ! $ nothing ! $ fjoin ! $
+      nothing ! $ fjoin ! $ nothing ! $ fjoin ! $ nothing ! $ fjoin ! $ move ! (1 ∷ 0 ∷ []) $ fjoin ! $ nothing ! $ fjoin ! $ owned ! D.the-row (Is D.the-row)
+      (LL.makes D.the-type D′.the-plain 𝓤 H A) (added r c) _ is $ move ! (1 ∷ 0 ∷ []) $ done !
 
   -- the local l, lent for ν under the name δ, and what the callee's triple binds outside
   abbrev lent : ℕ → GName → RefT Counts
@@ -113,17 +125,38 @@ module _ {M : Type 1} (𝓤 : URA M) (H : Heap 𝓤) (A : Atoms 𝓤) (W : Given
   callee-args l δ = (rows, (latches, (lent l δ, (id, (next-edge, (init-edge, tt))))))
 
   abbrev to-callee : ℕ → ℕ → GName → Callee 𝓤 H A at-mem run .Ghost
-  to-callee l ν δ = ((callee-κs ν, (q₀, (q₁, (fullShare, tt))), tt, callee-args l δ, (sliceVal (rows .ptr) (length (rows .now)) ∷ [], (sliceVal (latches .ptr) (length (latches .now)) ∷ [], (vptr l 0 ∷ [], (vint w32 id ∷ [], (vint w32 next-edge ∷ [], (vint w32 init-edge ∷ [], tt))))))), tt)
+  to-callee l ν δ = (
+    (
+      callee-κs ν,
+      (q₀, (q₁, (fullShare, tt))),
+      tt,
+      callee-args l δ,
+      (
+        sliceVal (rows .ptr) (length (rows .now)) ∷ [],
+        (sliceVal (latches .ptr) (length (latches .now)) ∷ [], (vptr l 0 ∷ [], (vint w32 id ∷ [], (vint w32 next-edge ∷ [], (vint w32 init-edge ∷ [], tt))))),
+      ),
+    ),
+    tt,
+  )
 
   -- the last values that it speaks of
   abbrev Lasts : Type 0
   Lasts = Unit {0} × (List ℕ × (Counts × (Unit {0} × (Unit {0} × (Unit {0} × Unit {0})))))
 
-  goes : (l ν : ℕ) (δ : GName) → ent 𝓤 (⋆ 𝓤 H A (‵ (flft κ₀ q₀) ∷ ‵ (flft κ₁ q₁) ∷ ‵ (flft (ν ∷ []) fullShare) ∷ ‵ (ShrSlice (named 0) κ₀ u32 .own rows (sliceVal (rows .ptr) (length (rows .now)) ∷ [])) ∷ ‵ (MutSlice (named 1) κ₁ u32 .own latches (sliceVal (latches .ptr) (length (latches .now)) ∷ [])) ∷ ‵ (MutRef (named 2) (ν ∷ []) K.the-row .own (lent l δ) (vptr l 0 ∷ [])) ∷ [])) (Callee 𝓤 H A at-mem run .pre (to-callee l ν δ))
+  goes :
+      (l ν : ℕ) (δ : GName) → ent 𝓤
+      (⋆ 𝓤 H A
+      (‵ (flft κ₀ q₀) ∷ ‵ (flft κ₁ q₁) ∷ ‵ (flft (ν ∷ []) fullShare) ∷ ‵ (ShrSlice (named 0) κ₀ u32 .own rows (sliceVal (rows .ptr) (length (rows .now)) ∷ [])) ∷ ‵
+      (MutSlice (named 1) κ₁ u32 .own latches (sliceVal (latches .ptr) (length (latches .now)) ∷ [])) ∷ ‵ (MutRef (named 2) (ν ∷ []) K.the-row .own (lent l δ) (vptr l 0 ∷ [])) ∷ []))
+      (Callee 𝓤 H A at-mem run .pre (to-callee l ν δ))
   goes l ν δ =
-      qed W (‵ (flft κ₀ q₀) ∷ ‵ (flft κ₁ q₁) ∷ ‵ (flft (ν ∷ []) fullShare) ∷ ‵ (ShrSlice (named 0) κ₀ u32 .own rows (sliceVal (rows .ptr) (length (rows .now)) ∷ [])) ∷ ‵ (MutSlice (named 1) κ₁ u32 .own latches (sliceVal (latches .ptr) (length (latches .now)) ∷ [])) ∷ ‵ (MutRef (named 2) (ν ∷ []) K.the-row .own (lent l δ) (vptr l 0 ∷ [])) ∷ []) ∵
-      owned ! u32 (Is u32) (uint-makes 𝓤 H A W w32) id _ id-fits $ owned ! u32 (Is u32) (uint-makes 𝓤 H A W w32) next-edge _ next-edge-fits $ owned ! u32 (Is u32) (uint-makes 𝓤 H A W w32) init-edge _ init-edge-fits $ nothing ! $ move ! (1 ∷ 0 ∷ []) $ fjoin ! $ move ! (1 ∷ 0 ∷ []) $ fjoin ! $ move ! (1 ∷ 0 ∷ []) $ fjoin ! $ move ! (6 ∷ 0 ∷ []) $ fjoin ! $ move ! (5 ∷ 0 ∷ []) $ fjoin ! $ move ! (4 ∷ 0 ∷ []) $ fjoin ! $
-      nothing ! $ move ! (4 ∷ 0 ∷ []) $ join ! $ move ! (3 ∷ 0 ∷ []) $ join ! $ move ! (2 ∷ 0 ∷ []) $ join ! $ join ! $ frame ! $ done !
+      qed W
+      (‵ (flft κ₀ q₀) ∷ ‵ (flft κ₁ q₁) ∷ ‵ (flft (ν ∷ []) fullShare) ∷ ‵ (ShrSlice (named 0) κ₀ u32 .own rows (sliceVal (rows .ptr) (length (rows .now)) ∷ [])) ∷ ‵
+      (MutSlice (named 1) κ₁ u32 .own latches (sliceVal (latches .ptr) (length (latches .now)) ∷ [])) ∷ ‵ (MutRef (named 2) (ν ∷ []) K.the-row .own (lent l δ) (vptr l 0 ∷ [])) ∷ []) ∵ owned
+      ! u32 (Is u32) (uint-makes 𝓤 H A W w32) id _ id-fits $ owned ! u32 (Is u32) (uint-makes 𝓤 H A W w32) next-edge _ next-edge-fits $ owned ! u32 (Is u32) (uint-makes 𝓤 H A W w32)
+      init-edge _ init-edge-fits $ nothing ! $ move ! (1 ∷ 0 ∷ []) $ fjoin ! $ move ! (1 ∷ 0 ∷ []) $ fjoin ! $ move ! (1 ∷ 0 ∷ []) $ fjoin ! $ move ! (6 ∷ 0 ∷ []) $ fjoin ! $ move !
+      (5 ∷ 0 ∷ []) $ fjoin ! $ move ! (4 ∷ 0 ∷ []) $ fjoin ! $ nothing ! $ move ! (4 ∷ 0 ∷ []) $ join ! $ move ! (3 ∷ 0 ∷ []) $ join ! $ move ! (2 ∷ 0 ∷ []) $ join ! $ join ! $ frame ! $
+      done !
 
   module _ (C : Calls 𝓤 H) (Λ : Loops 𝓤 H) (fm : FmC 𝓤 H (W .laws) C) (known : Triple 𝓤 (C #counts·add-latch) (Callee 𝓤 H A at-mem run)) where
     walk : ent 𝓤 (onEntry 𝓤 H A f.signature (κ₀, (κ₁, tt)) (q₀, (q₁, tt)) x at) (WpFn 𝓤 H C Λ code.function vs Post)
@@ -131,30 +164,64 @@ module _ {M : Type 1} (𝓤 : URA M) (H : Heap 𝓤) (A : Atoms 𝓤) (W : Given
     walk =
         qed W ((‵ (flft κ₀ q₀) ⊛ ‵ (flft κ₁ q₁) ⊛ ‵ ftrue) ∷ ‵ (owns (ShrSlice (named 0) κ₀ u32 ∷ MutSlice (named 1) κ₁ u32 ∷ K.the-row ∷ u32 ∷ u32 ∷ u32 ∷ []) x at) ∷ []) ∵
         enter ! C Λ code.function vs _ $
-        alloc1 ! (λ l₀. alloc1 ! (λ l₁. alloc1 ! (λ l₂. alloc1 ! (λ l₃. alloc1 ! (λ l₄. alloc1 ! (λ l₅. alloc1 ! (λ l₆. alloc1 ! (λ l₇. alloc1 ! (λ l₈. alloc1 ! (λ l₉. alloc1 ! (λ l₁₀. alloc1 ! (λ l₁₁. alloc1 ! (λ l₁₂. alloc0 ! $ params1 ! $
-        pass1 ! (init ! 22 refl (tt, (tt, (record { fits = rows-fits .0 }, tt)))) $ pass1 ! (init ! 20 refl (tt, (tt, (record { fits = latches-fits .0 }, tt)))) $ pass1 ! (init ! 18 refl (LL.lawful K.the-type K′.the-laws 𝓤 H A W .typed counts (K-vals counts) counts-fits .0)) $ pass1 ! (init ! 16 refl (tt, record { fits = id-fits .1 })) $ pass1 ! (init ! 14 refl (tt, record { fits = next-edge-fits .1 })) $ pass1 ! (init ! 12 refl (tt, record { fits = init-edge-fits .1 })) $ pass0 ! $
-        move ! (27 ∷ []) $ fsplit ! $ move ! (1 ∷ []) $ fsplit ! $ move ! (1 ∷ []) $ fsplit ! $ move ! (1 ∷ []) $ fsplit ! $ move ! (1 ∷ []) $ fsplit ! $ move ! (1 ∷ []) $ fsplit ! $ move ! (33 ∷ []) $ split ! $ move ! (1 ∷ []) $ split ! $
+        alloc1 !
+        (λ l₀. alloc1 !
+        (λ l₁. alloc1 !
+        (λ l₂. alloc1 !
+        (λ l₃. alloc1 ! (λ l₄. alloc1 ! (λ l₅. alloc1 ! (λ l₆. alloc1 ! (λ l₇. alloc1 ! (λ l₈. alloc1 ! (λ l₉. alloc1 ! (λ l₁₀. alloc1 ! (λ l₁₁. alloc1 ! (λ l₁₂. alloc0 ! $ params1 ! $
+        pass1 ! (init ! 22 refl (tt, (tt, (record { fits = rows-fits .0 }, tt)))) $ pass1 ! (init ! 20 refl (tt, (tt, (record { fits = latches-fits .0 }, tt)))) $ pass1 !
+        (init ! 18 refl (LL.lawful K.the-type K′.the-laws 𝓤 H A W .typed counts (K-vals counts) counts-fits .0)) $ pass1 ! (init ! 16 refl (tt, record { fits = id-fits .1 })) $ pass1 !
+        (init ! 14 refl (tt, record { fits = next-edge-fits .1 })) $ pass1 ! (init ! 12 refl (tt, record { fits = init-edge-fits .1 })) $ pass0 ! $
+        move ! (27 ∷ []) $ fsplit ! $ move ! (1 ∷ []) $ fsplit ! $ move ! (1 ∷ []) $ fsplit ! $ move ! (1 ∷ []) $ fsplit ! $ move ! (1 ∷ []) $ fsplit ! $ move ! (1 ∷ []) $ fsplit ! $ move !
+        (33 ∷ []) $ split ! $ move ! (1 ∷ []) $ split ! $
         assigns ! (of-opd ! (load ! (from ! (stop !)) (look ! 28 refl))) (from ! (stop !)) (init ! 20 refl (LL.lawful K.the-type K′.the-laws 𝓤 H A W .typed counts (K-vals counts) counts-fits .0)) $
-        assigns ! (addr ! (from ! (fld ! refl (hop ! (look-in ! 30 (sub ! 0 refl (whole !))) (stop !))))) (from ! (stop !)) (init ! 16 refl (tt, tt)) $ assigns ! (agg ! (and-then ! (load ! (from ! (stop !)) (look ! 16 refl)) (and-then ! (load ! (from ! (fld ! refl (stop !))) (look-in ! 30 (sub ! 1 refl (whole !)))) (no-more !)))) (from ! (stop !)) (init ! 14 refl (tt, (tt, (record { fits = latches-fits .0 }, tt)))) $
+        assigns ! (addr ! (from ! (fld ! refl (hop ! (look-in ! 30 (sub ! 0 refl (whole !))) (stop !))))) (from ! (stop !)) (init ! 16 refl (tt, tt)) $ assigns !
+        (agg ! (and-then ! (load ! (from ! (stop !)) (look ! 16 refl)) (and-then ! (load ! (from ! (fld ! refl (stop !))) (look-in ! 30 (sub ! 1 refl (whole !)))) (no-more !))))
+        (from ! (stop !)) (init ! 14 refl (tt, (tt, (record { fits = latches-fits .0 }, tt)))) $
         assigns ! (addr ! (from ! (stop !))) (from ! (stop !)) (init ! 12 refl (tt, tt)) $
         -- the local is lent for a lifetime ν of the call
-        move ! (20 ∷ 7 ∷ []) $ use1 W (‵ (cellAt fullShare (K.the-row .mir) (K-vals counts) l₇ 0)) (W .laws .at-raw fullShare K′.mir l₇ 0 (only (K-vals counts))) $ use2 W (‵ (mem K.the-row .lies counts l₇ 0)) (lies 𝓤 H A W counts l₇ 0) $
-        lft-new ! tt (λ ν. move ! (1 ∷ []) $ use1 W (later (some (λ (δ : GName). ‵ (MutRef (named 2) (ν ∷ []) K.the-row .own (lent l₇ δ) (vptr l₇ 0 ∷ [])) ⊛ ‵ (flent (ν ∷ []) (Lies (mem K.the-row) l₇ 0 δ))))) (lends-ref 𝓤 H A W K.the-row (named 2) (ν ∷ []) counts l₇ 0) $ await ! tt $ pick ! (λ δ. split ! $
+        move ! (20 ∷ 7 ∷ []) $ use1 W (‵ (cellAt fullShare (K.the-row .mir) (K-vals counts) l₇ 0)) (W .laws .at-raw fullShare K′.mir l₇ 0 (only (K-vals counts))) $ use2 W
+        (‵ (mem K.the-row .lies counts l₇ 0)) (lies 𝓤 H A W counts l₇ 0) $
+        lft-new ! tt
+        (λ ν. move ! (1 ∷ []) $ use1 W
+        (later (some (λ (δ : GName). ‵ (MutRef (named 2) (ν ∷ []) K.the-row .own (lent l₇ δ) (vptr l₇ 0 ∷ [])) ⊛ ‵ (flent (ν ∷ []) (Lies (mem K.the-row) l₇ 0 δ)))))
+        (lends-ref 𝓤 H A W K.the-row (named 2) (ν ∷ []) counts l₇ 0) $ await ! tt $ pick ! (λ δ. split ! $
         move ! (5 ∷ 3 ∷ 2 ∷ 11 ∷ 10 ∷ 0 ∷ []) $ group ! 6 $ use1 W (raw (Callee 𝓤 H A at-mem run .pre (to-callee l₇ ν δ))) (goes l₇ ν δ) $
-        calls-at ! fm (Callee 𝓤 H A at-mem run) known (to-callee l₇ ν δ) (and-then ! (load ! (from ! (stop !)) (look ! 28 refl)) (and-then ! (load ! (from ! (stop !)) (look ! 11 refl)) (and-then ! (load ! (from ! (stop !)) (look ! 9 refl)) (and-then ! (load ! (from ! (stop !)) (look ! 22 refl)) (and-then ! (load ! (from ! (stop !)) (look ! 20 refl)) (and-then ! (load ! (from ! (stop !)) (look ! 18 refl)) (no-more !))))))) (λ w.
-        use1 W (later (some (λ (r : Listed). ((‵ (flft κ₀ q₀) ⊛ ‵ (flft κ₁ q₁) ⊛ ‵ (flft (ν ∷ []) fullShare) ⊛ ‵ ftrue) ⊛ ‵ (R.the-row .own r (w ∷ []))) ⊛ raw (ensured 𝓤 H A g.ended (g.clauses 𝓤 H A at-mem run) (callee-κs ν) (callee-args l₇ δ) tt r)))) (id⊢ 𝓤 _) $ await ! tt $ pick ! (λ r. split ! $ move ! (1 ∷ []) $
-        use1 W (some (λ (zs : Lasts). ‵ (lasts g.ended (callee-κs ν) (callee-args l₇ δ) zs) ⊛ raw (fact 𝓤 (Says r (zs .1 .1 .0) (zs .1 .0))))) (id⊢ 𝓤 _) $ pick ! (λ zs. split ! $ move ! (1 ∷ []) $ heard ! (Says r (zs .1 .1 .0) (zs .1 .0)) (λ e.
-        fsplit ! $ move ! (1 ∷ []) $ fsplit ! $ fsplit ! $ move ! (1 ∷ []) $ feqL ! (λ len-latches. move ! (1 ∷ []) $ fsplit ! $ move ! (1 ∷ []) $ fsplit ! $ move ! (1 ∷ []) $ fsplit ! $ move ! (1 ∷ []) $ fsplit ! $
-        move ! (7 ∷ []) $ split ! $ split ! $ move ! (1 ∷ []) $ split ! $ move ! (1 ∷ []) $ split ! $ move ! (4 ∷ []) $ peeks ! R.the-row (Is R.the-row) (shows 𝓤 H A R.the-row) r (w ∷ []) (λ is. land ! (from ! (stop !)) (init ! 26 refl (LL.lawful R.the-type R′.the-laws 𝓤 H A W .typed r _ is .0)) $
+        calls-at ! fm (Callee 𝓤 H A at-mem run) known (to-callee l₇ ν δ)
+        (and-then ! (load ! (from ! (stop !)) (look ! 28 refl))
+        (and-then ! (load ! (from ! (stop !)) (look ! 11 refl))
+        (and-then ! (load ! (from ! (stop !)) (look ! 9 refl))
+        (and-then ! (load ! (from ! (stop !)) (look ! 22 refl))
+        (and-then ! (load ! (from ! (stop !)) (look ! 20 refl)) (and-then ! (load ! (from ! (stop !)) (look ! 18 refl)) (no-more !))))))) (λ w.
+        use1 W
+        (later
+        (some
+        (λ (r : Listed). ((‵ (flft κ₀ q₀) ⊛ ‵ (flft κ₁ q₁) ⊛ ‵ (flft (ν ∷ []) fullShare) ⊛ ‵ ftrue) ⊛ ‵ (R.the-row .own r (w ∷ []))) ⊛ raw
+        (ensured 𝓤 H A g.ended (g.clauses 𝓤 H A at-mem run) (callee-κs ν) (callee-args l₇ δ) tt r)))) (id⊢ 𝓤 _) $ await ! tt $ pick ! (λ r. split ! $ move ! (1 ∷ []) $
+        use1 W (some (λ (zs : Lasts). ‵ (lasts g.ended (callee-κs ν) (callee-args l₇ δ) zs) ⊛ raw (fact 𝓤 (Says r (zs .1 .1 .0) (zs .1 .0))))) (id⊢ 𝓤 _) $ pick !
+        (λ zs. split ! $ move ! (1 ∷ []) $ heard ! (Says r (zs .1 .1 .0) (zs .1 .0)) (λ e.
+        fsplit ! $ move ! (1 ∷ []) $ fsplit ! $ fsplit ! $ move ! (1 ∷ []) $ feqL !
+        (λ len-latches. move ! (1 ∷ []) $ fsplit ! $ move ! (1 ∷ []) $ fsplit ! $ move ! (1 ∷ []) $ fsplit ! $ move ! (1 ∷ []) $ fsplit ! $
+        move ! (7 ∷ []) $ split ! $ split ! $ move ! (1 ∷ []) $ split ! $ move ! (1 ∷ []) $ split ! $ move ! (4 ∷ []) $ peeks ! R.the-row (Is R.the-row) (shows 𝓤 H A R.the-row) r (w ∷ [])
+        (λ is. land ! (from ! (stop !)) (init ! 26 refl (LL.lawful R.the-type R′.the-laws 𝓤 H A W .typed r _ is .0)) $
         rewrite ! 26 (λ (u : Val). ‵ (fat fullShare R′.mir l₈ 0 u)) (ap only (LL.tells R.the-type R′.the-laws r (w ∷ []) is)) refl $
         -- the lifetime is ended, and the local comes back
-        move ! (1 ∷ []) $ lft-end ! tt $ move ! (0 ∷ 12 ∷ 9 ∷ []) $ use3 W (later (‵ (mem K.the-row .lies (zs .1 .1 .0) l₇ 0))) (ref-back 𝓤 H A W K.the-row (ν ∷ []) δ (zs .1 .1 .0) l₇ 0) $ await ! tt $
+        move ! (1 ∷ []) $ lft-end ! tt $ move ! (0 ∷ 12 ∷ 9 ∷ []) $ use3 W (later (‵ (mem K.the-row .lies (zs .1 .1 .0) l₇ 0))) (ref-back 𝓤 H A W K.the-row (ν ∷ []) δ (zs .1 .1 .0) l₇ 0) $
+        await ! tt $
         fpick ! (λ us. fsplit ! $ spelt ! K.the-row (Is K.the-row) (shows 𝓤 H A K.the-row) K-vals (LL.tells K.the-type K′.the-laws) fullShare (zs .1 .1 .0) us l₇ 0 $
-        use1 W (‵ (fat fullShare K′.mir l₇ 0 (only (K-vals (zs .1 .1 .0))))) (W .laws .raw-at fullShare K′.mir l₇ 0 (only (K-vals (zs .1 .1 .0)))) $ move ! (1 ∷ []) $ peeks ! K.the-row (Is K.the-row) (shows 𝓤 H A K.the-row) (zs .1 .1 .0) (K-vals (zs .1 .1 .0)) (λ kept.
-        -- [what held owns; _7; what r owns; token s2; token 1; token 0; last:init-edge; lasts; last:next-edge; last:id; fin:latches; last:rows; …; what init-edge owns; …; what next-edge owns; what id owns; _12; …; _11; …; _10; …; _9; …; _8; …; …; _6; …; _5; …; _4; …; _3; …; _2; …; _1; …; _0; …]
-        assigns ! (of-opd ! (load ! (from ! (stop !)) (look ! 1 refl))) (from ! (stop !)) (init ! 17 refl (LL.lawful K.the-type K′.the-laws 𝓤 H A W .typed (zs .1 .1 .0) (K-vals (zs .1 .1 .0)) kept .0)) $
-        assigns ! (agg ! (and-then ! (load ! (from ! (fld ! refl (stop !))) (look-in ! 25 (sub ! 0 refl (whole !)))) (and-then ! (load ! (from ! (stop !)) (look ! 17 refl)) (and-then ! (load ! (from ! (fld ! refl (stop !))) (look-in ! 25 (sub ! 1 refl (whole !)))) (no-more !))))) (from ! (stop !)) (init ! 40 refl (LL.lawful D.the-type D′.the-laws 𝓤 H A W .typed (added r (zs .1 .1 .0)) (D-vals (added r (zs .1 .1 .0))) (joined r w (zs .1 .1 .0) is kept) .0)) $
-        returns ! (look ! 40 refl) $ forget ! 40 refl $ forget ! 38 refl $ forget ! 36 refl $ forget ! 34 refl $ forget ! 32 refl $ forget ! 30 refl $ forget ! 28 refl $ forget ! 1 refl $ forget ! 25 refl $ forget ! 23 refl $ forget ! 21 refl $ forget ! 19 refl $ forget ! 17 refl $
+        use1 W (‵ (fat fullShare K′.mir l₇ 0 (only (K-vals (zs .1 .1 .0))))) (W .laws .raw-at fullShare K′.mir l₇ 0 (only (K-vals (zs .1 .1 .0)))) $ move ! (1 ∷ []) $ peeks ! K.the-row
+        (Is K.the-row) (shows 𝓤 H A K.the-row) (zs .1 .1 .0) (K-vals (zs .1 .1 .0)) (λ kept.
+        -- [what held owns; _7; what r owns; token s2; token 1; token 0; last:init-edge; lasts; last:next-edge; last:id; fin:latches; last:rows; …; what init-edge owns; …; what
+        -- next-edge owns; what id owns; _12; …; _11; …; _10; …; _9; …; _8; …; …; _6; …; _5; …; _4; …; _3; …; _2; …; _1; …; _0; …]
+        assigns ! (of-opd ! (load ! (from ! (stop !)) (look ! 1 refl))) (from ! (stop !))
+        (init ! 17 refl (LL.lawful K.the-type K′.the-laws 𝓤 H A W .typed (zs .1 .1 .0) (K-vals (zs .1 .1 .0)) kept .0)) $
+        assigns !
+        (agg !
+        (and-then ! (load ! (from ! (fld ! refl (stop !))) (look-in ! 25 (sub ! 0 refl (whole !))))
+        (and-then ! (load ! (from ! (stop !)) (look ! 17 refl)) (and-then ! (load ! (from ! (fld ! refl (stop !))) (look-in ! 25 (sub ! 1 refl (whole !)))) (no-more !))))) (from ! (stop !))
+        (init ! 40 refl (LL.lawful D.the-type D′.the-laws 𝓤 H A W .typed (added r (zs .1 .1 .0)) (D-vals (added r (zs .1 .1 .0))) (joined r w (zs .1 .1 .0) is kept) .0)) $
+        returns ! (look ! 40 refl) $ forget ! 40 refl $ forget ! 38 refl $ forget ! 36 refl $ forget ! 34 refl $ forget ! 32 refl $ forget ! 30 refl $ forget ! 28 refl $ forget ! 1 refl $
+        forget ! 25 refl $ forget ! 23 refl $ forget ! 21 refl $ forget ! 19 refl $ forget ! 17 refl $
         keep ! (40 ∷ 41 ∷ 38 ∷ 39 ∷ 36 ∷ 37 ∷ 34 ∷ 35 ∷ 32 ∷ 33 ∷ 30 ∷ 31 ∷ 28 ∷ 29 ∷ 1 ∷ 27 ∷ 25 ∷ 26 ∷ 23 ∷ 24 ∷ 21 ∷ 22 ∷ 19 ∷ 20 ∷ 17 ∷ 18 ∷ 5 ∷ 4 ∷ 10 ∷ []) $
         free1 ! $ free1 ! $ free1 ! $ free1 ! $ free1 ! $ free1 ! $ free1 ! $ free1 ! $ free1 ! $ free1 ! $ free1 ! $ free1 ! $ free1 ! $ free0 ! $
         by ! (exits r (zs .1 .1 .0) (zs .1 .0) e len-latches (joined r w (zs .1 .1 .0) is kept)))))))))))))))))))))))))
@@ -169,7 +236,19 @@ module _ {M : Type 1} (𝓤 : URA M) (H : Heap 𝓤) (A : Atoms 𝓤) (W : Given
       (are .0 .0 .1) (are .1 .0 .0 .1) (are .1 .1 .0) (are .1 .1 .1 .0) (are .1 .1 .1 .1 .0) (are .1 .1 .1 .1 .1 .0) (𝓣 .C) (𝓣 .Λ) (fmOf 𝓤 H (W .laws) 𝓣) known))
 
   all-go : AllGo 𝓤 H A W 2 (f.signature .params) (f.ended .kept) stayed
-  all-go = (goes-dropped 𝓤 H A W 2 (shrSliceOf (0 ∷ []) tt (plain (λ _. u32))) yes (λ κs x f. refl), (goes-gave-slice 𝓤 H A W 2 1 tt (plain (λ _. u32)), (goes-dropped 𝓤 H A W 2 (plain (λ _. K.the-row)) yes (λ κs x f. refl), (goes-dropped 𝓤 H A W 2 (plain (λ _. u32)) yes (λ κs x f. refl), (goes-dropped 𝓤 H A W 2 (plain (λ _. u32)) yes (λ κs x f. refl), (goes-dropped 𝓤 H A W 2 (plain (λ _. u32)) yes (λ κs x f. refl), tt))))))
+  all-go = (
+    goes-dropped 𝓤 H A W 2 (shrSliceOf (0 ∷ []) tt (plain (λ _. u32))) yes (λ κs x f. refl),
+    (
+      goes-gave-slice 𝓤 H A W 2 1 tt (plain (λ _. u32)),
+      (
+        goes-dropped 𝓤 H A W 2 (plain (λ _. K.the-row)) yes (λ κs x f. refl),
+        (
+          goes-dropped 𝓤 H A W 2 (plain (λ _. u32)) yes (λ κs x f. refl),
+          (goes-dropped 𝓤 H A W 2 (plain (λ _. u32)) yes (λ κs x f. refl), (goes-dropped 𝓤 H A W 2 (plain (λ _. u32)) yes (λ κs x f. refl), tt)),
+        ),
+      ),
+    ),
+  )
 
   add-latch-meets : Triple 𝓤 (𝓣 .C #counts·add-latch) (Callee 𝓤 H A at-mem run) → Meets 𝓤 H A f.signature (WpFn 𝓤 H (𝓣 .C) (𝓣 .Λ) code.function) (f.spec 𝓤 H A at-mem run)
   add-latch-meets known = walk-meets 𝓤 H A f.ended stayed W all-go (f.clauses 𝓤 H A at-mem run) (WpFn 𝓤 H (𝓣 .C) (𝓣 .Λ) code.function) (WpFn-mono 𝓤 H (W .laws) 𝓣 code.function) (add-latch-walks known)

@@ -1,6 +1,7 @@
 -- `records::by_lending::new_input` meets its contract.
 -- Assumes nothing.
--- A walk of its code by hand: the record is copied to a local in memory, which is lent to `counts::new_input` for a lifetime that is made for the call, and comes back at the counts that were left there.
+-- A walk of its code by hand: the record is copied to a local in memory, which is lent to `counts::new_input` for a lifetime that is made for the call, and comes back at the counts that
+-- were left there.
 -- A comment in brackets is the context at that point: _i is local i, … what lets a local die, or nothing.
 use mathlib.Core.Path.{_≡_, refl, ap}
 use Prim.Native.Nat.{ℕ}
@@ -43,15 +44,15 @@ use denote.Triple.Clauses.{ensured, lasts}
 use denote.Triple.Table.{entered, cited}
 use denote.Triple.Walked.{says, Stays, gave-slice, stay-dropped, walkOf, AllGo, goes-gave-slice, goes-dropped, Walks, ends-at, walked, walk-meets}
 use denote.Exit.{yes}
-use Rattle.build.specs.Calls.{addedSeen}
-use Rattle.build.specs.Leaves.{newInputCall}
+use Rattle.build_leaves.specs.Calls.{addedSeen}
+use Rattle.build_leaves.specs.Leaves.{newInputCall}
 use Rattle.graph.specs.declared.Counts.{Counts}
 use Rattle.records.specs.declared.counts.Listed.{Listed}
 use Rattle.records.specs.Counts.{added}
 use Rattle.graph.proofs.Counts as K
 use Rattle.graph.proofs.Counts.Laws as K′
-use Rattle.build.proofs.calls.Added as D
-use Rattle.build.proofs.calls.Added.Laws as D′
+use Rattle.build_leaves.proofs.calls.Added as D
+use Rattle.build_leaves.proofs.calls.Added.Laws as D′
 use Rattle.records.proofs.counts.Listed as R
 use Rattle.records.proofs.counts.Listed.Laws as R′
 use Rattle.records.proofs.Listing.{K-vals, D-vals, joined, lies}
@@ -93,8 +94,10 @@ module _ {M : Type 1} (𝓤 : URA M) (H : Heap 𝓤) (A : Atoms 𝓤) (W : Given
   abbrev Says : Listed → Counts → List ℕ → List ℕ → Type 0
   Says r c rows′ inputs′ = addedSeen (added r c) rows′ inputs′ ≡ newInputCall (rows .now) (inputs .now) counts
 
-  exits : (r : Listed) (c : Counts) (rows′ inputs′ : List ℕ) → Says r c rows′ inputs′ → length rows′ ≡ length (rows .now) → length inputs′ ≡ length (inputs .now) → Is D.the-row (added r c) (D-vals (added r c))
-      → ent 𝓤 (⋆ 𝓤 H A (‵ (flft κ₀ q₀) ∷ ‵ (flft κ₁ q₁) ∷ ‵ (finally u32 (rows .name) rows′) ∷ ‵ (finally u32 (inputs .name) inputs′) ∷ [])) (Post (only (D-vals (added r c))))
+  exits :
+      (r : Listed) (c : Counts) (rows′ inputs′ : List ℕ) → Says r c rows′ inputs′ → length rows′ ≡ length (rows .now) → length inputs′ ≡ length (inputs .now) → Is D.the-row (added r c)
+      (D-vals (added r c)) → ent 𝓤 (⋆ 𝓤 H A (‵ (flft κ₀ q₀) ∷ ‵ (flft κ₁ q₁) ∷ ‵ (finally u32 (rows .name) rows′) ∷ ‵ (finally u32 (inputs .name) inputs′) ∷ []))
+      (Post (only (D-vals (added r c))))
   exits r c rows′ inputs′ e len-rows len-inputs is =
       qed W (‵ (flft κ₀ q₀) ∷ ‵ (flft κ₁ q₁) ∷ ‵ (finally u32 (rows .name) rows′) ∷ ‵ (finally u32 (inputs .name) inputs′) ∷ []) ∵
       suffices ! _ (ends-at 𝓤 H A f.ended stayed (f.clauses 𝓤 H A at-mem run) W bound (only (D-vals (added r c))) (added r c) (rows′, (inputs′, (tt, tt))) (len-rows, (len-inputs, (tt, tt)))) $
@@ -112,17 +115,33 @@ module _ {M : Type 1} (𝓤 : URA M) (H : Heap 𝓤) (A : Atoms 𝓤) (W : Given
   callee-args l δ = (rows, (inputs, (lent l δ, tt)))
 
   abbrev to-callee : ℕ → ℕ → GName → Callee 𝓤 H A at-mem run .Ghost
-  to-callee l ν δ = ((callee-κs ν, (q₀, (q₁, (fullShare, tt))), tt, callee-args l δ, (sliceVal (rows .ptr) (length (rows .now)) ∷ [], (sliceVal (inputs .ptr) (length (inputs .now)) ∷ [], (vptr l 0 ∷ [], tt)))), tt)
+  to-callee l ν δ = (
+    (
+      callee-κs ν,
+      (q₀, (q₁, (fullShare, tt))),
+      tt,
+      callee-args l δ,
+      (sliceVal (rows .ptr) (length (rows .now)) ∷ [], (sliceVal (inputs .ptr) (length (inputs .now)) ∷ [], (vptr l 0 ∷ [], tt))),
+    ),
+    tt,
+  )
 
   -- the last values that it speaks of
   abbrev Lasts : Type 0
   Lasts = List ℕ × (List ℕ × (Counts × Unit {0}))
 
-  goes : (l ν : ℕ) (δ : GName) → ent 𝓤 (⋆ 𝓤 H A (‵ (flft κ₀ q₀) ∷ ‵ (flft κ₁ q₁) ∷ ‵ (flft (ν ∷ []) fullShare) ∷ ‵ (MutSlice (named 0) κ₀ u32 .own rows (sliceVal (rows .ptr) (length (rows .now)) ∷ [])) ∷ ‵ (MutSlice (named 1) κ₁ u32 .own inputs (sliceVal (inputs .ptr) (length (inputs .now)) ∷ [])) ∷ ‵ (MutRef (named 2) (ν ∷ []) K.the-row .own (lent l δ) (vptr l 0 ∷ [])) ∷ [])) (Callee 𝓤 H A at-mem run .pre (to-callee l ν δ))
+  goes :
+      (l ν : ℕ) (δ : GName) → ent 𝓤
+      (⋆ 𝓤 H A
+      (‵ (flft κ₀ q₀) ∷ ‵ (flft κ₁ q₁) ∷ ‵ (flft (ν ∷ []) fullShare) ∷ ‵ (MutSlice (named 0) κ₀ u32 .own rows (sliceVal (rows .ptr) (length (rows .now)) ∷ [])) ∷ ‵
+      (MutSlice (named 1) κ₁ u32 .own inputs (sliceVal (inputs .ptr) (length (inputs .now)) ∷ [])) ∷ ‵ (MutRef (named 2) (ν ∷ []) K.the-row .own (lent l δ) (vptr l 0 ∷ [])) ∷ []))
+      (Callee 𝓤 H A at-mem run .pre (to-callee l ν δ))
   goes l ν δ =
-      qed W (‵ (flft κ₀ q₀) ∷ ‵ (flft κ₁ q₁) ∷ ‵ (flft (ν ∷ []) fullShare) ∷ ‵ (MutSlice (named 0) κ₀ u32 .own rows (sliceVal (rows .ptr) (length (rows .now)) ∷ [])) ∷ ‵ (MutSlice (named 1) κ₁ u32 .own inputs (sliceVal (inputs .ptr) (length (inputs .now)) ∷ [])) ∷ ‵ (MutRef (named 2) (ν ∷ []) K.the-row .own (lent l δ) (vptr l 0 ∷ [])) ∷ []) ∵
-      nothing ! $ move ! (6 ∷ 0 ∷ []) $ fjoin ! $ move ! (5 ∷ 0 ∷ []) $ fjoin ! $ move ! (4 ∷ 0 ∷ []) $ fjoin ! $
-      nothing ! $ move ! (4 ∷ 0 ∷ []) $ join ! $ move ! (3 ∷ 0 ∷ []) $ join ! $ move ! (2 ∷ 0 ∷ []) $ join ! $ join ! $ frame ! $ done !
+      qed W
+      (‵ (flft κ₀ q₀) ∷ ‵ (flft κ₁ q₁) ∷ ‵ (flft (ν ∷ []) fullShare) ∷ ‵ (MutSlice (named 0) κ₀ u32 .own rows (sliceVal (rows .ptr) (length (rows .now)) ∷ [])) ∷ ‵
+      (MutSlice (named 1) κ₁ u32 .own inputs (sliceVal (inputs .ptr) (length (inputs .now)) ∷ [])) ∷ ‵ (MutRef (named 2) (ν ∷ []) K.the-row .own (lent l δ) (vptr l 0 ∷ [])) ∷ []) ∵ nothing !
+      $ move ! (6 ∷ 0 ∷ []) $ fjoin ! $ move ! (5 ∷ 0 ∷ []) $ fjoin ! $ move ! (4 ∷ 0 ∷ []) $ fjoin ! $ nothing ! $ move ! (4 ∷ 0 ∷ []) $ join ! $ move ! (3 ∷ 0 ∷ []) $ join ! $ move !
+      (2 ∷ 0 ∷ []) $ join ! $ join ! $ frame ! $ done !
 
   module _ (C : Calls 𝓤 H) (Λ : Loops 𝓤 H) (fm : FmC 𝓤 H (W .laws) C) (known : Triple 𝓤 (C #counts·new-input) (Callee 𝓤 H A at-mem run)) where
     walk : ent 𝓤 (onEntry 𝓤 H A f.signature (κ₀, (κ₁, tt)) (q₀, (q₁, tt)) x at) (WpFn 𝓤 H C Λ code.function vs Post)
@@ -130,31 +149,58 @@ module _ {M : Type 1} (𝓤 : URA M) (H : Heap 𝓤) (A : Atoms 𝓤) (W : Given
     walk =
         qed W ((‵ (flft κ₀ q₀) ⊛ ‵ (flft κ₁ q₁) ⊛ ‵ ftrue) ∷ ‵ (owns (MutSlice (named 0) κ₀ u32 ∷ MutSlice (named 1) κ₁ u32 ∷ K.the-row ∷ []) x at) ∷ []) ∵
         enter ! C Λ code.function vs _ $
-        alloc1 ! (λ l₀. alloc1 ! (λ l₁. alloc1 ! (λ l₂. alloc1 ! (λ l₃. alloc1 ! (λ l₄. alloc1 ! (λ l₅. alloc1 ! (λ l₆. alloc1 ! (λ l₇. alloc1 ! (λ l₈. alloc1 ! (λ l₉. alloc1 ! (λ l₁₀. alloc1 ! (λ l₁₁. alloc0 ! $ params1 ! $
-        pass1 ! (init ! 20 refl (tt, (tt, (record { fits = rows-fits .0 }, tt)))) $ pass1 ! (init ! 18 refl (tt, (tt, (record { fits = inputs-fits .0 }, tt)))) $ pass1 ! (init ! 16 refl (LL.lawful K.the-type K′.the-laws 𝓤 H A W .typed counts (K-vals counts) counts-fits .0)) $ pass0 ! $
+        alloc1 !
+        (λ l₀. alloc1 !
+        (λ l₁. alloc1 !
+        (λ l₂. alloc1 ! (λ l₃. alloc1 ! (λ l₄. alloc1 ! (λ l₅. alloc1 ! (λ l₆. alloc1 ! (λ l₇. alloc1 ! (λ l₈. alloc1 ! (λ l₉. alloc1 ! (λ l₁₀. alloc1 ! (λ l₁₁. alloc0 ! $ params1 ! $
+        pass1 ! (init ! 20 refl (tt, (tt, (record { fits = rows-fits .0 }, tt)))) $ pass1 ! (init ! 18 refl (tt, (tt, (record { fits = inputs-fits .0 }, tt)))) $ pass1 !
+        (init ! 16 refl (LL.lawful K.the-type K′.the-laws 𝓤 H A W .typed counts (K-vals counts) counts-fits .0)) $ pass0 ! $
         move ! (25 ∷ []) $ fsplit ! $ move ! (1 ∷ []) $ fsplit ! $ move ! (1 ∷ []) $ fsplit ! $ move ! (28 ∷ []) $ split ! $ move ! (1 ∷ []) $ split ! $
         assigns ! (of-opd ! (load ! (from ! (stop !)) (look ! 23 refl))) (from ! (stop !)) (init ! 21 refl (LL.lawful K.the-type K′.the-laws 𝓤 H A W .typed counts (K-vals counts) counts-fits .0)) $
-        assigns ! (addr ! (from ! (fld ! refl (hop ! (look-in ! 27 (sub ! 0 refl (whole !))) (stop !))))) (from ! (stop !)) (init ! 17 refl (tt, tt)) $ assigns ! (agg ! (and-then ! (load ! (from ! (stop !)) (look ! 17 refl)) (and-then ! (load ! (from ! (fld ! refl (stop !))) (look-in ! 27 (sub ! 1 refl (whole !)))) (no-more !)))) (from ! (stop !)) (init ! 15 refl (tt, (tt, (record { fits = rows-fits .0 }, tt)))) $
-        assigns ! (addr ! (from ! (fld ! refl (hop ! (look-in ! 25 (sub ! 0 refl (whole !))) (stop !))))) (from ! (stop !)) (init ! 13 refl (tt, tt)) $ assigns ! (agg ! (and-then ! (load ! (from ! (stop !)) (look ! 13 refl)) (and-then ! (load ! (from ! (fld ! refl (stop !))) (look-in ! 25 (sub ! 1 refl (whole !)))) (no-more !)))) (from ! (stop !)) (init ! 11 refl (tt, (tt, (record { fits = inputs-fits .0 }, tt)))) $
+        assigns ! (addr ! (from ! (fld ! refl (hop ! (look-in ! 27 (sub ! 0 refl (whole !))) (stop !))))) (from ! (stop !)) (init ! 17 refl (tt, tt)) $ assigns !
+        (agg ! (and-then ! (load ! (from ! (stop !)) (look ! 17 refl)) (and-then ! (load ! (from ! (fld ! refl (stop !))) (look-in ! 27 (sub ! 1 refl (whole !)))) (no-more !))))
+        (from ! (stop !)) (init ! 15 refl (tt, (tt, (record { fits = rows-fits .0 }, tt)))) $
+        assigns ! (addr ! (from ! (fld ! refl (hop ! (look-in ! 25 (sub ! 0 refl (whole !))) (stop !))))) (from ! (stop !)) (init ! 13 refl (tt, tt)) $ assigns !
+        (agg ! (and-then ! (load ! (from ! (stop !)) (look ! 13 refl)) (and-then ! (load ! (from ! (fld ! refl (stop !))) (look-in ! 25 (sub ! 1 refl (whole !)))) (no-more !))))
+        (from ! (stop !)) (init ! 11 refl (tt, (tt, (record { fits = inputs-fits .0 }, tt)))) $
         assigns ! (addr ! (from ! (stop !))) (from ! (stop !)) (init ! 9 refl (tt, tt)) $
         -- the local is lent for a lifetime ν of the call
-        move ! (21 ∷ 3 ∷ []) $ use1 W (‵ (cellAt fullShare (K.the-row .mir) (K-vals counts) l₄ 0)) (W .laws .at-raw fullShare K′.mir l₄ 0 (only (K-vals counts))) $ use2 W (‵ (mem K.the-row .lies counts l₄ 0)) (lies 𝓤 H A W counts l₄ 0) $
-        lft-new ! tt (λ ν. move ! (1 ∷ []) $ use1 W (later (some (λ (δ : GName). ‵ (MutRef (named 2) (ν ∷ []) K.the-row .own (lent l₄ δ) (vptr l₄ 0 ∷ [])) ⊛ ‵ (flent (ν ∷ []) (Lies (mem K.the-row) l₄ 0 δ))))) (lends-ref 𝓤 H A W K.the-row (named 2) (ν ∷ []) counts l₄ 0) $ await ! tt $ pick ! (λ δ. split ! $
+        move ! (21 ∷ 3 ∷ []) $ use1 W (‵ (cellAt fullShare (K.the-row .mir) (K-vals counts) l₄ 0)) (W .laws .at-raw fullShare K′.mir l₄ 0 (only (K-vals counts))) $ use2 W
+        (‵ (mem K.the-row .lies counts l₄ 0)) (lies 𝓤 H A W counts l₄ 0) $
+        lft-new ! tt
+        (λ ν. move ! (1 ∷ []) $ use1 W
+        (later (some (λ (δ : GName). ‵ (MutRef (named 2) (ν ∷ []) K.the-row .own (lent l₄ δ) (vptr l₄ 0 ∷ [])) ⊛ ‵ (flent (ν ∷ []) (Lies (mem K.the-row) l₄ 0 δ)))))
+        (lends-ref 𝓤 H A W K.the-row (named 2) (ν ∷ []) counts l₄ 0) $ await ! tt $ pick ! (λ δ. split ! $
         move ! (5 ∷ 3 ∷ 2 ∷ 8 ∷ 7 ∷ 0 ∷ []) $ group ! 6 $ use1 W (raw (Callee 𝓤 H A at-mem run .pre (to-callee l₄ ν δ))) (goes l₄ ν δ) $
-        calls-at ! fm (Callee 𝓤 H A at-mem run) known (to-callee l₄ ν δ) (and-then ! (load ! (from ! (stop !)) (look ! 12 refl)) (and-then ! (load ! (from ! (stop !)) (look ! 8 refl)) (and-then ! (load ! (from ! (stop !)) (look ! 6 refl)) (no-more !)))) (λ w.
-        use1 W (later (some (λ (r : Listed). ((‵ (flft κ₀ q₀) ⊛ ‵ (flft κ₁ q₁) ⊛ ‵ (flft (ν ∷ []) fullShare) ⊛ ‵ ftrue) ⊛ ‵ (R.the-row .own r (w ∷ []))) ⊛ raw (ensured 𝓤 H A g.ended (g.clauses 𝓤 H A at-mem run) (callee-κs ν) (callee-args l₄ δ) tt r)))) (id⊢ 𝓤 _) $ await ! tt $ pick ! (λ r. split ! $ move ! (1 ∷ []) $
-        use1 W (some (λ (zs : Lasts). ‵ (lasts g.ended (callee-κs ν) (callee-args l₄ δ) zs) ⊛ raw (fact 𝓤 (Says r (zs .1 .1 .0) (zs .0) (zs .1 .0))))) (id⊢ 𝓤 _) $ pick ! (λ zs. split ! $ move ! (1 ∷ []) $ heard ! (Says r (zs .1 .1 .0) (zs .0) (zs .1 .0)) (λ e.
+        calls-at ! fm (Callee 𝓤 H A at-mem run) known (to-callee l₄ ν δ)
+        (and-then ! (load ! (from ! (stop !)) (look ! 12 refl)) (and-then ! (load ! (from ! (stop !)) (look ! 8 refl)) (and-then ! (load ! (from ! (stop !)) (look ! 6 refl)) (no-more !))))
+        (λ w.
+        use1 W
+        (later
+        (some
+        (λ (r : Listed). ((‵ (flft κ₀ q₀) ⊛ ‵ (flft κ₁ q₁) ⊛ ‵ (flft (ν ∷ []) fullShare) ⊛ ‵ ftrue) ⊛ ‵ (R.the-row .own r (w ∷ []))) ⊛ raw
+        (ensured 𝓤 H A g.ended (g.clauses 𝓤 H A at-mem run) (callee-κs ν) (callee-args l₄ δ) tt r)))) (id⊢ 𝓤 _) $ await ! tt $ pick ! (λ r. split ! $ move ! (1 ∷ []) $
+        use1 W (some (λ (zs : Lasts). ‵ (lasts g.ended (callee-κs ν) (callee-args l₄ δ) zs) ⊛ raw (fact 𝓤 (Says r (zs .1 .1 .0) (zs .0) (zs .1 .0))))) (id⊢ 𝓤 _) $ pick !
+        (λ zs. split ! $ move ! (1 ∷ []) $ heard ! (Says r (zs .1 .1 .0) (zs .0) (zs .1 .0)) (λ e.
         fsplit ! $ fsplit ! $ move ! (1 ∷ []) $ feqL ! (λ len-rows. move ! (1 ∷ []) $ fsplit ! $ fsplit ! $ move ! (1 ∷ []) $ feqL ! (λ len-inputs. move ! (1 ∷ []) $ fsplit ! $
-        move ! (4 ∷ []) $ split ! $ split ! $ move ! (1 ∷ []) $ split ! $ move ! (1 ∷ []) $ split ! $ move ! (4 ∷ []) $ peeks ! R.the-row (Is R.the-row) (shows 𝓤 H A R.the-row) r (w ∷ []) (λ is. land ! (from ! (stop !)) (init ! 24 refl (LL.lawful R.the-type R′.the-laws 𝓤 H A W .typed r _ is .0)) $
+        move ! (4 ∷ []) $ split ! $ split ! $ move ! (1 ∷ []) $ split ! $ move ! (1 ∷ []) $ split ! $ move ! (4 ∷ []) $ peeks ! R.the-row (Is R.the-row) (shows 𝓤 H A R.the-row) r (w ∷ [])
+        (λ is. land ! (from ! (stop !)) (init ! 24 refl (LL.lawful R.the-type R′.the-laws 𝓤 H A W .typed r _ is .0)) $
         rewrite ! 24 (λ (u : Val). ‵ (fat fullShare R′.mir l₅ 0 u)) (ap only (LL.tells R.the-type R′.the-laws r (w ∷ []) is)) refl $
         -- the lifetime is ended, and the local comes back
         move ! (1 ∷ []) $ lft-end ! tt $ move ! (0 ∷ 9 ∷ 5 ∷ []) $ use3 W (later (‵ (mem K.the-row .lies (zs .1 .1 .0) l₄ 0))) (ref-back 𝓤 H A W K.the-row (ν ∷ []) δ (zs .1 .1 .0) l₄ 0) $ await ! tt $
         fpick ! (λ us. fsplit ! $ spelt ! K.the-row (Is K.the-row) (shows 𝓤 H A K.the-row) K-vals (LL.tells K.the-type K′.the-laws) fullShare (zs .1 .1 .0) us l₄ 0 $
-        use1 W (‵ (fat fullShare K′.mir l₄ 0 (only (K-vals (zs .1 .1 .0))))) (W .laws .raw-at fullShare K′.mir l₄ 0 (only (K-vals (zs .1 .1 .0)))) $ move ! (1 ∷ []) $ peeks ! K.the-row (Is K.the-row) (shows 𝓤 H A K.the-row) (zs .1 .1 .0) (K-vals (zs .1 .1 .0)) (λ kept.
+        use1 W (‵ (fat fullShare K′.mir l₄ 0 (only (K-vals (zs .1 .1 .0))))) (W .laws .raw-at fullShare K′.mir l₄ 0 (only (K-vals (zs .1 .1 .0)))) $ move ! (1 ∷ []) $ peeks ! K.the-row
+        (Is K.the-row) (shows 𝓤 H A K.the-row) (zs .1 .1 .0) (K-vals (zs .1 .1 .0)) (λ kept.
         -- [what held owns; _4; what r owns; token s2; token 1; token 0; lasts; fin:inputs; fin:rows; …; …; _11; …; _10; …; _9; …; _8; …; _7; …; _6; …; _5; …; …; _3; …; _2; …; _1; …; _0; …]
-        assigns ! (of-opd ! (load ! (from ! (stop !)) (look ! 1 refl))) (from ! (stop !)) (init ! 11 refl (LL.lawful K.the-type K′.the-laws 𝓤 H A W .typed (zs .1 .1 .0) (K-vals (zs .1 .1 .0)) kept .0)) $
-        assigns ! (agg ! (and-then ! (load ! (from ! (fld ! refl (stop !))) (look-in ! 23 (sub ! 0 refl (whole !)))) (and-then ! (load ! (from ! (stop !)) (look ! 11 refl)) (and-then ! (load ! (from ! (fld ! refl (stop !))) (look-in ! 23 (sub ! 1 refl (whole !)))) (no-more !))))) (from ! (stop !)) (init ! 32 refl (LL.lawful D.the-type D′.the-laws 𝓤 H A W .typed (added r (zs .1 .1 .0)) (D-vals (added r (zs .1 .1 .0))) (joined r w (zs .1 .1 .0) is kept) .0)) $
-        returns ! (look ! 32 refl) $ forget ! 32 refl $ forget ! 30 refl $ forget ! 28 refl $ forget ! 26 refl $ forget ! 1 refl $ forget ! 23 refl $ forget ! 21 refl $ forget ! 19 refl $ forget ! 17 refl $ forget ! 15 refl $ forget ! 13 refl $ forget ! 11 refl $
+        assigns ! (of-opd ! (load ! (from ! (stop !)) (look ! 1 refl))) (from ! (stop !))
+        (init ! 11 refl (LL.lawful K.the-type K′.the-laws 𝓤 H A W .typed (zs .1 .1 .0) (K-vals (zs .1 .1 .0)) kept .0)) $
+        assigns !
+        (agg !
+        (and-then ! (load ! (from ! (fld ! refl (stop !))) (look-in ! 23 (sub ! 0 refl (whole !))))
+        (and-then ! (load ! (from ! (stop !)) (look ! 11 refl)) (and-then ! (load ! (from ! (fld ! refl (stop !))) (look-in ! 23 (sub ! 1 refl (whole !)))) (no-more !))))) (from ! (stop !))
+        (init ! 32 refl (LL.lawful D.the-type D′.the-laws 𝓤 H A W .typed (added r (zs .1 .1 .0)) (D-vals (added r (zs .1 .1 .0))) (joined r w (zs .1 .1 .0) is kept) .0)) $
+        returns ! (look ! 32 refl) $ forget ! 32 refl $ forget ! 30 refl $ forget ! 28 refl $ forget ! 26 refl $ forget ! 1 refl $ forget ! 23 refl $ forget ! 21 refl $ forget ! 19 refl $
+        forget ! 17 refl $ forget ! 15 refl $ forget ! 13 refl $ forget ! 11 refl $
         keep ! (32 ∷ 33 ∷ 30 ∷ 31 ∷ 28 ∷ 29 ∷ 26 ∷ 27 ∷ 1 ∷ 25 ∷ 23 ∷ 24 ∷ 21 ∷ 22 ∷ 19 ∷ 20 ∷ 17 ∷ 18 ∷ 15 ∷ 16 ∷ 13 ∷ 14 ∷ 11 ∷ 12 ∷ 5 ∷ 4 ∷ 8 ∷ 7 ∷ []) $
         free1 ! $ free1 ! $ free1 ! $ free1 ! $ free1 ! $ free1 ! $ free1 ! $ free1 ! $ free1 ! $ free1 ! $ free1 ! $ free1 ! $ free0 ! $
         by ! (exits r (zs .1 .1 .0) (zs .0) (zs .1 .0) e len-rows len-inputs (joined r w (zs .1 .1 .0) is kept)))))))))))))))))))))))))

@@ -21,7 +21,8 @@ use ghost.Atoms.{Atoms}
 use contract.Monad.{Fun}
 use contract.Running.{givenOf, tables, tablesOf}
 use types.Kit.{Given, ‵, _⊛_, ⋆, atRet, _$_, _∵_, !, qed, by, move, keep, split, join, rewrite, fsplit, fjoin, suffices, frame, done}
-use types.Run.{first, branches, skips, exec, look, look-raw, init, forget, stop, hop, fld, from, load, lit, of-opd, and-then, no-more, bin, assigns, returns, enter, alloc1, alloc0, params1, pass1, pass0, free1, free0}
+use types.Run.{first, branches, skips, exec, look, look-raw, init, forget, stop, hop, fld, from, load, lit}
+use types.Run.{of-opd, and-then, no-more, bin, assigns, returns, enter, alloc1, alloc0, params1, pass1, pass0, free1, free0}
 use types.Part.{agg, whole, sub, look-in}
 use sound.WpLaws.{FmC, fmOf, WpFn-mono}
 use denote.RattleType.{owns}
@@ -100,9 +101,9 @@ module _ {M : Type 1} (𝓤 : URA M) (H : Heap 𝓤) (A : Atoms 𝓤) (W : Given
   exits : (r : Found) → foundSeen r ≡ latchCall (table .now) i → Is F.the-row r (F-vals r)
       → ent 𝓤 (⋆ 𝓤 H A (‵ (flft κ₀ q₀) ∷ [])) (Post (only (F-vals r)))
   exits r e is =
-      qed W (‵ (flft κ₀ q₀) ∷ []) ∵
-      suffices ! _ (ends-at 𝓤 H A f.ended stayed (f.clauses 𝓤 H A at-mem run) W bound (only (F-vals r)) r (tt, (tt, tt)) (tt, (tt, tt))) $
-      says ! e $ nothing ! $ move ! (1 ∷ 0 ∷ []) $ join ! $ frame ! $ nothing ! $ nothing ! $ fjoin ! $ nothing ! $ fjoin ! $ owned ! F.the-row (Is F.the-row) (LL.makes F.the-type F′.the-plain 𝓤 H A) r _ is $ move ! (1 ∷ 0 ∷ []) $ done !
+      qed W (‵ (flft κ₀ q₀) ∷ []) ∵ suffices ! _ (ends-at 𝓤 H A f.ended stayed (f.clauses 𝓤 H A at-mem run) W bound (only (F-vals r)) r (tt, (tt, tt)) (tt, (tt, tt))) $ says ! e $ nothing !
+      $ move ! (1 ∷ 0 ∷ []) $ join ! $ frame ! $ nothing ! $ nothing ! $ fjoin ! $ nothing ! $ fjoin ! $ owned ! F.the-row (Is F.the-row) (LL.makes F.the-type F′.the-plain 𝓤 H A) r _ is $
+      move ! (1 ∷ 0 ∷ []) $ done !
 
   -- the record is there, or not
   small : T (ltb i n) → i < n
@@ -124,27 +125,41 @@ module _ {M : Type 1} (𝓤 : URA M) (H : Heap 𝓤) (A : Atoms 𝓤) (W : Given
     walk =
         qed W ((‵ (flft κ₀ q₀) ⊛ ‵ ftrue) ∷ ‵ (owns (ShrSlice (named 0) κ₀ L.the-row ∷ usize ∷ []) x at) ∷ []) ∵
         enter ! C Λ code.function vs _ $
-        alloc1 ! (λ l₀. alloc1 ! (λ l₁. alloc1 ! (λ l₂. alloc1 ! (λ l₃. alloc1 ! (λ l₄. alloc1 ! (λ l₅. alloc1 ! (λ l₆. alloc1 ! (λ l₇. alloc1 ! (λ l₈. alloc1 ! (λ l₉. alloc1 ! (λ l₁₀. alloc0 ! $ params1 ! $
+        alloc1 !
+        (λ l₀. alloc1 !
+        (λ l₁. alloc1 ! (λ l₂. alloc1 ! (λ l₃. alloc1 ! (λ l₄. alloc1 ! (λ l₅. alloc1 ! (λ l₆. alloc1 ! (λ l₇. alloc1 ! (λ l₈. alloc1 ! (λ l₉. alloc1 ! (λ l₁₀. alloc0 ! $ params1 ! $
         pass1 ! (init ! 18 refl (tt, (tt, (record { fits = table-fits .0 }, tt)))) $ pass1 ! (init ! 16 refl (tt, record { fits = i-fits .1 })) $ pass0 ! $
         move ! (23 ∷ []) $ fsplit ! $ move ! (1 ∷ []) $ fsplit ! $ move ! (25 ∷ []) $ split ! $ move ! (4 ∷ []) $ fsplit ! $ move ! (1 ∷ []) $ fsplit ! $
-        assigns ! (of-opd ! (load ! (from ! (fld ! refl (stop !))) (look-in ! 25 (sub ! 1 refl (whole !))))) (from ! (stop !)) (init ! 21 refl (tt, record { fits = table-fits .0 })) $ assigns ! (bin ! (load ! (from ! (stop !)) (look ! 23 refl)) (load ! (from ! (stop !)) (look ! 21 refl)) tt) (from ! (stop !)) (init ! 19 refl (tt, tt)) $
+        assigns ! (of-opd ! (load ! (from ! (fld ! refl (stop !))) (look-in ! 25 (sub ! 1 refl (whole !))))) (from ! (stop !)) (init ! 21 refl (tt, record { fits = table-fits .0 })) $
+        assigns ! (bin ! (load ! (from ! (stop !)) (look ! 23 refl)) (load ! (from ! (stop !)) (look ! 21 refl)) tt) (from ! (stop !)) (init ! 19 refl (tt, tt)) $
         -- [t-res; t-bor; t-at; token 0; …; what i owns; …; _10; …; _9; …; _8; …; _7; …; _6; …; _5; …; _4; …; _3; …; _2; …; _1; …; _0; …]
         first ! $ branches ! (load ! (from ! (stop !)) (look ! 19 refl))
         (λ less. assigns ! (agg ! (and-then ! (lit ! tt) (no-more !))) (from ! (stop !)) (init ! 17 refl (EL.lawful N.the-type N′.the-laws 𝓤 H A W tt .typed Done (N-vals Done) is-done .0)) $
-        assigns ! (bin ! (load ! (from ! (stop !)) (look ! 23 refl)) (lit ! tt) (record { fits = by-12 less })) (from ! (stop !)) (init ! 15 refl (tt, record { fits = by-12 less })) $ assigns ! (bin ! (load ! (from ! (fld ! refl (stop !))) (look-in ! 25 (sub ! 0 refl (whole !)))) (load ! (from ! (stop !)) (look ! 15 refl)) tt) (from ! (stop !)) (init ! 13 refl (tt, tt)) $
+        assigns ! (bin ! (load ! (from ! (stop !)) (look ! 23 refl)) (lit ! tt) (record { fits = by-12 less })) (from ! (stop !)) (init ! 15 refl (tt, record { fits = by-12 less })) $
+        assigns ! (bin ! (load ! (from ! (fld ! refl (stop !))) (look-in ! 25 (sub ! 0 refl (whole !)))) (load ! (from ! (stop !)) (look ! 15 refl)) tt) (from ! (stop !))
+        (init ! 13 refl (tt, tt)) $
         rewrite ! 13 (λ (p : ℕ). ‵ (fat fullShare tyPtr l₇ 0 (vptr (table .ptr .0) p))) (sym (place-is 12 (table .ptr .1) i)) refl $
-        move ! (1 ∷ 3 ∷ []) $ looks-slice ! tt L.the-row (Is L.the-row) (shows 𝓤 H A L.the-row) L-vals (LL.tells L.the-type L′.the-laws) (LL.copy L.the-type L′.the-copy 𝓤 H A W) (table .now) (table .ptr .0) (table .ptr .1) (λ s.
+        move ! (1 ∷ 3 ∷ []) $ looks-slice ! tt L.the-row (Is L.the-row) (shows 𝓤 H A L.the-row) L-vals (LL.tells L.the-type L′.the-laws) (LL.copy L.the-type L′.the-copy 𝓤 H A W) (table .now)
+        (table .ptr .0) (table .ptr .1) (λ s.
         elem-out ! L.the-row (Is L.the-row) (shows 𝓤 H A L.the-row) L-vals (LL.tells L.the-type L′.the-laws) s (table .now) i noLatch (table .ptr .0) (table .ptr .1) (small less) (λ g.
-        assigns ! (of-opd ! (load ! (from ! (hop ! (look ! 16 refl) (stop !))) (look-raw ! 0 refl))) (from ! (stop !)) (init ! 14 refl (LL.lawful L.the-type L′.the-laws 𝓤 H A W .typed elem (L-vals elem) g .0)) $
+        assigns ! (of-opd ! (load ! (from ! (hop ! (look ! 16 refl) (stop !))) (look-raw ! 0 refl))) (from ! (stop !))
+        (init ! 14 refl (LL.lawful L.the-type L′.the-laws 𝓤 H A W .typed elem (L-vals elem) g .0)) $
         elem-back ! L.the-row s (table .now) i noLatch (L-vals elem) (table .ptr .0) (table .ptr .1) (small less) $ shuts-slice ! tt L.the-row s (table .now) (table .ptr .0) (table .ptr .1) $
-        assigns ! (agg ! (and-then ! (load ! (from ! (stop !)) (look ! 17 refl)) (and-then ! (load ! (from ! (stop !)) (look ! 11 refl)) (no-more !)))) (from ! (stop !)) (init ! 27 refl (LL.lawful F.the-type F′.the-laws 𝓤 H A W .typed (found Done elem) (F-vals (found Done elem)) (found-made Done elem is-done g) .0)) $
-        returns-within ! Post refl (look ! 27 refl) $ forget ! 27 refl $ forget ! 25 refl $ forget ! 23 refl $ forget ! 21 refl $ forget ! 19 refl $ forget ! 17 refl $ forget ! 15 refl $ forget ! 13 refl $ forget ! 11 refl $
+        assigns ! (agg ! (and-then ! (load ! (from ! (stop !)) (look ! 17 refl)) (and-then ! (load ! (from ! (stop !)) (look ! 11 refl)) (no-more !)))) (from ! (stop !))
+        (init ! 27 refl (LL.lawful F.the-type F′.the-laws 𝓤 H A W .typed (found Done elem) (F-vals (found Done elem)) (found-made Done elem is-done g) .0)) $
+        returns-within ! Post refl (look ! 27 refl) $ forget ! 27 refl $ forget ! 25 refl $ forget ! 23 refl $ forget ! 21 refl $ forget ! 19 refl $ forget ! 17 refl $ forget ! 15 refl $
+        forget ! 13 refl $ forget ! 11 refl $
         keep ! (27 ∷ 28 ∷ 25 ∷ 26 ∷ 23 ∷ 24 ∷ 21 ∷ 22 ∷ 19 ∷ 20 ∷ 17 ∷ 18 ∷ 15 ∷ 16 ∷ 13 ∷ 14 ∷ 11 ∷ 12 ∷ 9 ∷ 10 ∷ 7 ∷ 8 ∷ 0 ∷ []) $
         free1 ! $ free1 ! $ free1 ! $ free1 ! $ free1 ! $ free1 ! $ free1 ! $ free1 ! $ free1 ! $ free1 ! $ free1 ! $ free0 ! $
         by ! (exits (found Done elem) (done-at less) (found-made Done elem is-done g)))))
         (λ over. skips ! $ exec ! C Λ _ pieces.t-4 (atRet _ Post) $
-        assigns ! (agg ! (and-then ! (lit ! tt) (no-more !))) (from ! (stop !)) (init ! 9 refl (EL.lawful N.the-type N′.the-laws 𝓤 H A W tt .typed BadArgument (N-vals BadArgument) is-bad .0)) $ assigns ! (agg ! (and-then ! (lit ! tt) (and-then ! (lit ! tt) (and-then ! (lit ! tt) (no-more !))))) (from ! (stop !)) (init ! 7 refl (LL.lawful L.the-type L′.the-laws 𝓤 H A W .typed noLatch (L-vals noLatch) is-none .0)) $
-        assigns ! (agg ! (and-then ! (load ! (from ! (stop !)) (look ! 9 refl)) (and-then ! (load ! (from ! (stop !)) (look ! 7 refl)) (no-more !)))) (from ! (stop !)) (init ! 27 refl (LL.lawful F.the-type F′.the-laws 𝓤 H A W .typed (found BadArgument noLatch) (F-vals (found BadArgument noLatch)) (found-made BadArgument noLatch is-bad is-none) .0)) $
+        assigns ! (agg ! (and-then ! (lit ! tt) (no-more !))) (from ! (stop !))
+        (init ! 9 refl (EL.lawful N.the-type N′.the-laws 𝓤 H A W tt .typed BadArgument (N-vals BadArgument) is-bad .0)) $ assigns !
+        (agg ! (and-then ! (lit ! tt) (and-then ! (lit ! tt) (and-then ! (lit ! tt) (no-more !))))) (from ! (stop !))
+        (init ! 7 refl (LL.lawful L.the-type L′.the-laws 𝓤 H A W .typed noLatch (L-vals noLatch) is-none .0)) $
+        assigns ! (agg ! (and-then ! (load ! (from ! (stop !)) (look ! 9 refl)) (and-then ! (load ! (from ! (stop !)) (look ! 7 refl)) (no-more !)))) (from ! (stop !))
+        (init ! 27 refl (LL.lawful F.the-type F′.the-laws 𝓤 H A W .typed (found BadArgument noLatch) (F-vals (found BadArgument noLatch)) (found-made BadArgument noLatch is-bad is-none) .0))
+        $
         returns ! (look ! 27 refl) $ forget ! 27 refl $ forget ! 25 refl $ forget ! 23 refl $ forget ! 21 refl $ forget ! 19 refl $ forget ! 9 refl $ forget ! 7 refl $
         keep ! (27 ∷ 28 ∷ 25 ∷ 26 ∷ 23 ∷ 24 ∷ 21 ∷ 22 ∷ 19 ∷ 20 ∷ 17 ∷ 18 ∷ 15 ∷ 16 ∷ 13 ∷ 14 ∷ 11 ∷ 12 ∷ 9 ∷ 10 ∷ 7 ∷ 8 ∷ 3 ∷ []) $
         free1 ! $ free1 ! $ free1 ! $ free1 ! $ free1 ! $ free1 ! $ free1 ! $ free1 ! $ free1 ! $ free1 ! $ free1 ! $ free0 ! $

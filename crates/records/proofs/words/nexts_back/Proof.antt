@@ -24,8 +24,10 @@ use prog.Wp.{Heap, Out, Env, afterSeq, afterBlock, afterTurn, Calls, Loops, Wp, 
 use ghost.Atoms.{Atoms}
 use contract.Monad.{Fun, fact}
 use contract.Running.{givenOf, tables, tablesOf}
-use types.Kit.{Given, Item, ‵, raw, some, later, _⊛_, ⋆, anyQ, atRet, runs, Sq, _$_, _∵_, !, qed, by, move, keep, drop, use0, use1, use2, split, join, pick, rewrite, fsplit, fjoin, feqI, suffices, frame, await, done}
-use types.Run.{Below, again, loops, first, blocks, branches, skips, jumps, exec, look, store, init, forget, stop, hop, fld, from, load, lit, unit-lit, of-opd, and-then, no-more, bin, assigns, assigns-last, land, returns, enter, alloc1, alloc0, params1, pass1, pass0, free1, free0}
+use types.Kit.{Given, Item, ‵, raw, some, later, _⊛_, ⋆, anyQ, atRet, runs, Sq, _$_, _∵_, !, qed, by}
+use types.Kit.{move, keep, drop, use0, use1, use2, split, join, pick, rewrite, fsplit, fjoin, feqI, suffices, frame, await, done}
+use types.Run.{Below, again, loops, first, blocks, branches, skips, jumps, exec, look, store, init, forget, stop, hop, fld, from, load}
+use types.Run.{lit, unit-lit, of-opd, and-then, no-more, bin, assigns, assigns-last, land, returns, enter, alloc1, alloc0, params1, pass1, pass0, free1, free0}
 use types.Part.{whole, sub, look-in, store-in}
 use sound.WpLaws.{fmOf, WpFn-mono}
 use denote.RattleType.{owns}
@@ -149,15 +151,17 @@ module _ {M : Type 1} (𝓤 : URA M) (H : Heap 𝓤) (A : Atoms 𝓤) (W : Given
 
   -- what is had between turns
   abbrev Had : ℕ → List (Item 𝓤)
-  Had i = ‵ (fobs (table .name) (codedHoleys L.the-row .code (heres L.the-row (S i)))) ∷ ‵ (fbor κ₀ (Held L.the-row (length (S i)) (table .ptr .0) (table .ptr .1) (table .name))) ∷ ‵ (flft κ₀ q₀) ∷ ‵ (ShrSlice (named 1) κ₁ u32 .own words (so ∷ [])) ∷ ‵ (flft κ₁ q₁) ∷ []
+  Had i =
+      ‵ (fobs (table .name) (codedHoleys L.the-row .code (heres L.the-row (S i)))) ∷ ‵ (fbor κ₀ (Held L.the-row (length (S i)) (table .ptr .0) (table .ptr .1) (table .name))) ∷ ‵
+      (flft κ₀ q₀) ∷ ‵ (ShrSlice (named 1) κ₁ u32 .own words (so ∷ [])) ∷ ‵ (flft κ₁ q₁) ∷ []
 
   exits : (i : ℕ) → i ≡ m → ent 𝓤 (⋆ 𝓤 H A (Had i)) (Post vunit)
   exits i e =
-      qed W (Had i) ∵
-      suffices ! _ (ends-at 𝓤 H A f.ended stayed (f.clauses 𝓤 H A at-mem run) W bound vunit tt (S i, (tt, tt)) (S-length i, (tt, tt))) $
-      says ! (ap S e ∙ sofar-copied takeNext (words .now) (table .now)) $ move ! (3 ∷ []) $ drop ! $ nothing ! $ move ! (4 ∷ 0 ∷ []) $ join ! $ move ! (3 ∷ 0 ∷ []) $ join ! $ frame ! $
-      fjoin ! $ pureI ! (at-slice L.the-row (out (S i)) (st ∷ [])) (tt, (tt, tt)) (ap (λ (k : ℕ). sliceVal (table .ptr) k ∷ []) (sym (S-length i)), subst (Room L.the-row) (sym (S-length i)) table-fits) $ fjoin ! $
-      nothing ! $ nothing ! $ fjoin ! $ move ! (1 ∷ 0 ∷ []) $ fjoin ! $ feqI ! (List Val) (vunit ∷ []) (vunit ∷ []) refl $ move ! (1 ∷ 0 ∷ []) $ done !
+      qed W (Had i) ∵ suffices ! _ (ends-at 𝓤 H A f.ended stayed (f.clauses 𝓤 H A at-mem run) W bound vunit tt (S i, (tt, tt)) (S-length i, (tt, tt))) $ says !
+      (ap S e ∙ sofar-copied takeNext (words .now) (table .now)) $ move ! (3 ∷ []) $ drop ! $ nothing ! $ move ! (4 ∷ 0 ∷ []) $ join ! $ move ! (3 ∷ 0 ∷ []) $ join ! $ frame ! $ fjoin ! $
+      pureI ! (at-slice L.the-row (out (S i)) (st ∷ [])) (tt, (tt, tt))
+      (ap (λ (k : ℕ). sliceVal (table .ptr) k ∷ []) (sym (S-length i)), subst (Room L.the-row) (sym (S-length i)) table-fits) $ fjoin ! $ nothing ! $ nothing ! $ fjoin ! $ move !
+      (1 ∷ 0 ∷ []) $ fjoin ! $ feqI ! (List Val) (vunit ∷ []) (vunit ∷ []) refl $ move ! (1 ∷ 0 ∷ []) $ done !
 
   -- what `copied` is called with
   abbrev to-copied : Copied 𝓤 H A at-mem run .Ghost
@@ -165,8 +169,8 @@ module _ {M : Type 1} (𝓤 : URA M) (H : Heap 𝓤) (A : Atoms 𝓤) (W : Given
 
   goes-copied : ent 𝓤 (emp 𝓤) (Copied 𝓤 H A at-mem run .pre to-copied)
   goes-copied =
-      qed W [] ∵
-      owned ! usize (Is usize) (uint-makes 𝓤 H A W w64) n _ (refl, table-fits .0) $ owned ! usize (Is usize) (uint-makes 𝓤 H A W w64) lent _ (refl, words-fits .0) $ nothing ! $ move ! (1 ∷ 0 ∷ []) $ fjoin ! $ move ! (1 ∷ 0 ∷ []) $ fjoin ! $ nothing ! $ join ! $ frame ! $ done !
+      qed W [] ∵ owned ! usize (Is usize) (uint-makes 𝓤 H A W w64) n _ (refl, table-fits .0) $ owned ! usize (Is usize) (uint-makes 𝓤 H A W w64) lent _ (refl, words-fits .0) $ nothing ! $
+      move ! (1 ∷ 0 ∷ []) $ fjoin ! $ move ! (1 ∷ 0 ∷ []) $ fjoin ! $ nothing ! $ join ! $ frame ! $ done !
 
   -- what `latch_at` is called with in turn i
   abbrev to-read : ℕ → Reads 𝓤 H A at-mem run .Ghost
@@ -174,8 +178,8 @@ module _ {M : Type 1} (𝓤 : URA M) (H : Heap 𝓤) (A : Atoms 𝓤) (W : Given
 
   goes-read : (i : ℕ) → i < 2 ^ 64 → latchWords * (i + 1) ≤ lent → ent 𝓤 (⋆ 𝓤 H A (‵ (flft κ₁ q₁) ∷ ‵ (ShrSlice (named 1) κ₁ u32 .own words (so ∷ [])) ∷ [])) (Reads 𝓤 H A at-mem run .pre (to-read i))
   goes-read i fits room =
-      qed W (‵ (flft κ₁ q₁) ∷ ‵ (ShrSlice (named 1) κ₁ u32 .own words (so ∷ [])) ∷ []) ∵
-      says ! room $ owned ! usize (Is usize) (uint-makes 𝓤 H A W w64) i _ (refl, fits) $ nothing ! $ move ! (1 ∷ 0 ∷ []) $ fjoin ! $ move ! (2 ∷ 0 ∷ []) $ fjoin ! $ nothing ! $ move ! (2 ∷ 0 ∷ []) $ join ! $ join ! $ done !
+      qed W (‵ (flft κ₁ q₁) ∷ ‵ (ShrSlice (named 1) κ₁ u32 .own words (so ∷ [])) ∷ []) ∵ says ! room $ owned ! usize (Is usize) (uint-makes 𝓤 H A W w64) i _ (refl, fits) $ nothing ! $ move !
+      (1 ∷ 0 ∷ []) $ fjoin ! $ move ! (2 ∷ 0 ∷ []) $ fjoin ! $ nothing ! $ move ! (2 ∷ 0 ∷ []) $ join ! $ join ! $ done !
 
   -- the turns: i nexts are written
   abbrev Upto : Type 0
@@ -220,29 +224,41 @@ module _ {M : Type 1} (𝓤 : URA M) (H : Heap 𝓤) (A : Atoms 𝓤) (W : Given
     unfolding afterTurn
     turns known i =
         -- [_10; …; _9; …; _8; …; _7; …; _6; …; _5; …; _4; …; _3; …; _2; …; _1; …; _0; …; obs; bor; token 0; what words owns; token 1]
-        assigns ! (bin ! (load ! (from ! (stop !)) (look ! 12 refl)) (load ! (from ! (stop !)) (look ! 14 refl)) tt) (from ! (stop !)) (init ! 4 refl (tt, tt)) $ first ! $ branches ! (load ! (from ! (stop !)) (look ! 4 refl))
+        assigns ! (bin ! (load ! (from ! (stop !)) (look ! 12 refl)) (load ! (from ! (stop !)) (look ! 14 refl)) tt) (from ! (stop !)) (init ! 4 refl (tt, tt)) $ first ! $ branches !
+        (load ! (from ! (stop !)) (look ! 4 refl))
         (λ less. skips ! $ exec ! C Λ En more (anyQ (Turned i)) $
         -- the latch is read from the words
-        move ! (25 ∷ []) $ use1 W (‵ (ShrSlice (named 1) κ₁ u32 .own words (so ∷ [])) ⊛ ‵ (ShrSlice (named 1) κ₁ u32 .own words (so ∷ []))) (shr-slice-copy 𝓤 H A W (named 1) κ₁ u32 .twice words (so ∷ [])) $ split ! $
+        move ! (25 ∷ []) $ use1 W (‵ (ShrSlice (named 1) κ₁ u32 .own words (so ∷ [])) ⊛ ‵ (ShrSlice (named 1) κ₁ u32 .own words (so ∷ [])))
+        (shr-slice-copy 𝓤 H A W (named 1) κ₁ u32 .twice words (so ∷ [])) $ split ! $
         move ! (27 ∷ 0 ∷ []) $ use2 W (raw (Reads 𝓤 H A at-mem run .pre (to-read (i .0)))) (goes-read (i .0) (idx less) (room less)) $
-        calls-at ! (fmOf 𝓤 H (W .laws) 𝓣) (Reads 𝓤 H A at-mem run) known (to-read (i .0)) (and-then ! (load ! (from ! (stop !)) (look ! 18 refl)) (and-then ! (load ! (from ! (stop !)) (look ! 14 refl)) (no-more !))) (λ w.
-        use1 W (later (some (λ (r : Latch). ((‵ (flft κ₁ q₁) ⊛ ‵ ftrue) ⊛ ‵ (L.the-row .own r (w ∷ []))) ⊛ raw (ensured 𝓤 H A k.ended (k.clauses 𝓤 H A at-mem run) (κ₁, tt) (words, (i .0, tt)) tt r)))) (id⊢ 𝓤 _) $ await ! tt $ pick ! (λ r. split ! $ move ! (1 ∷ []) $
-        use1 W (some (λ (zs : Unit {0} × (Unit {0} × Unit {0})). ‵ (lasts k.ended (κ₁, tt) (words, (i .0, tt)) zs) ⊛ raw (fact 𝓤 (r ≡ latchAt (words .now) (i .0))))) (id⊢ 𝓤 _) $ pick ! (λ zs. split ! $ move ! (1 ∷ []) $ heard ! (r ≡ latchAt (words .now) (i .0)) (λ e.
-        move ! (1 ∷ []) $ split ! $ split ! $ move ! (2 ∷ []) $ peeks ! L.the-row (Is L.the-row) (shows 𝓤 H A L.the-row) r (w ∷ []) (λ is. land ! (from ! (stop !)) (init ! 15 refl (LL.lawful L.the-type L′.the-laws 𝓤 H A W .typed r _ is .0)) $
+        calls-at ! (fmOf 𝓤 H (W .laws) 𝓣) (Reads 𝓤 H A at-mem run) known (to-read (i .0))
+        (and-then ! (load ! (from ! (stop !)) (look ! 18 refl)) (and-then ! (load ! (from ! (stop !)) (look ! 14 refl)) (no-more !))) (λ w.
+        use1 W
+        (later
+        (some (λ (r : Latch). ((‵ (flft κ₁ q₁) ⊛ ‵ ftrue) ⊛ ‵ (L.the-row .own r (w ∷ []))) ⊛ raw (ensured 𝓤 H A k.ended (k.clauses 𝓤 H A at-mem run) (κ₁, tt) (words, (i .0, tt)) tt r))))
+        (id⊢ 𝓤 _) $ await ! tt $ pick ! (λ r. split ! $ move ! (1 ∷ []) $
+        use1 W (some (λ (zs : Unit {0} × (Unit {0} × Unit {0})). ‵ (lasts k.ended (κ₁, tt) (words, (i .0, tt)) zs) ⊛ raw (fact 𝓤 (r ≡ latchAt (words .now) (i .0))))) (id⊢ 𝓤 _) $ pick !
+        (λ zs. split ! $ move ! (1 ∷ []) $ heard ! (r ≡ latchAt (words .now) (i .0)) (λ e.
+        move ! (1 ∷ []) $ split ! $ split ! $ move ! (2 ∷ []) $ peeks ! L.the-row (Is L.the-row) (shows 𝓤 H A L.the-row) r (w ∷ [])
+        (λ is. land ! (from ! (stop !)) (init ! 15 refl (LL.lawful L.the-type L′.the-laws 𝓤 H A W .typed r _ is .0)) $
         rewrite ! 15 (λ (u : Val). ‵ (fat fullShare L′.mir l₅ 0 u)) (ap only (LL.tells L.the-type L′.the-laws r (w ∷ []) is)) refl $
-        assigns ! (bin ! (load ! (from ! (stop !)) (look ! 17 refl)) (lit ! tt) (record { fits = by-12 less })) (from ! (stop !)) (init ! 7 refl (tt, record { fits = by-12 less })) $ assigns ! (bin ! (load ! (from ! (fld ! refl (stop !))) (look-in ! 23 (sub ! 0 refl (whole !)))) (load ! (from ! (stop !)) (look ! 7 refl)) tt) (from ! (stop !)) (init ! 5 refl (tt, tt)) $
+        assigns ! (bin ! (load ! (from ! (stop !)) (look ! 17 refl)) (lit ! tt) (record { fits = by-12 less })) (from ! (stop !)) (init ! 7 refl (tt, record { fits = by-12 less })) $ assigns
+        ! (bin ! (load ! (from ! (fld ! refl (stop !))) (look-in ! 23 (sub ! 0 refl (whole !)))) (load ! (from ! (stop !)) (look ! 7 refl)) tt) (from ! (stop !)) (init ! 5 refl (tt, tt)) $
         rewrite ! 5 (λ (p : ℕ). ‵ (fat fullShare tyPtr l₁₀ 0 (vptr (table .ptr .0) p))) (sym (place-is 12 (table .ptr .1) (i .0))) refl $
         -- the table's borrow is opened, and the next of record i is stored
         move ! (27 ∷ 28 ∷ 29 ∷ []) $ opens-slice ! tt L.the-row (S (i .0)) (table .ptr .0) (table .ptr .1) $
         elem-out ! L.the-row (Is L.the-row) (shows 𝓤 H A L.the-row) L-vals (LL.tells L.the-type L′.the-laws) fullShare (S (i .0)) (i .0) noLatch (table .ptr .0) (table .ptr .1) (inside less) (λ was.
-        assigns ! (of-opd ! (load ! (from ! (fld ! refl (stop !))) (look-in ! 21 (sub ! 1 refl (whole !))))) (from ! (hop ! (look ! 11 refl) (fld ! refl (stop !)))) (store-in ! 0 (sub ! 1 refl (whole !)) (tt, record { fits = next-fits r w is })) $
+        assigns ! (of-opd ! (load ! (from ! (fld ! refl (stop !))) (look-in ! 21 (sub ! 1 refl (whole !))))) (from ! (hop ! (look ! 11 refl) (fld ! refl (stop !))))
+        (store-in ! 0 (sub ! 1 refl (whole !)) (tt, record { fits = next-fits r w is })) $
         move ! (1 ∷ []) $ drop ! $ owned ! L.the-row (Is L.the-row) (LL.makes L.the-type L′.the-plain 𝓤 H A) (takeNext (elem (i .0)) r) _ (next-made (elem (i .0)) (r .next) (next-fits r w is) was) $
         move ! (1 ∷ 0 ∷ 2 ∷ []) $ elem-put ! L.the-row fullShare (S (i .0)) (i .0) (takeNext (elem (i .0)) r) (L-vals (takeNext (elem (i .0)) r)) (table .ptr .0) (table .ptr .1) (inside less) $
         rewrite ! 0 (λ (l : Latch). ‵ (row L.the-row fullShare (set (S (i .0)) (i .0) (takeNext (elem (i .0)) l)) (table .ptr .0) (table .ptr .1))) e refl $
         closes-slice ! tt L.the-row (S (i .0)) (S (suc (i .0))) (length-set (S (i .0)) (i .0) (takeNext (elem (i .0)) (latchAt (words .now) (i .0)))) (table .ptr .0) (table .ptr .1) $
-        assigns-last ! (bin ! (load ! (from ! (stop !)) (look ! 20 refl)) (lit ! tt) (record { fits = one-more less })) (from ! (stop !)) (store ! 20 refl (tt, record { fits = one-more less })) $ rewrite ! 20 (λ (j : ℕ). ‵ (fat fullShare word l₄ 0 (vint w64 j))) (add-one (i .0)) refl $
+        assigns-last ! (bin ! (load ! (from ! (stop !)) (look ! 20 refl)) (lit ! tt) (record { fits = one-more less })) (from ! (stop !))
+        (store ! 20 refl (tt, record { fits = one-more less })) $ rewrite ! 20 (λ (j : ℕ). ‵ (fat fullShare word l₄ 0 (vint w64 j))) (add-one (i .0)) refl $
         forget ! 18 refl $ forget ! 12 refl $ forget ! 10 refl $ forget ! 8 refl $
-        keep ! (8 ∷ 9 ∷ 10 ∷ 11 ∷ 12 ∷ 13 ∷ 14 ∷ 15 ∷ 16 ∷ 17 ∷ 18 ∷ 19 ∷ 20 ∷ 21 ∷ 22 ∷ 23 ∷ 24 ∷ 25 ∷ 26 ∷ 27 ∷ 28 ∷ 29 ∷ 0 ∷ 1 ∷ 2 ∷ 7 ∷ 4 ∷ []) $ again ! Nearer At i (suc (i .0), small less) (sub-suc-lt m (i .0) (small less)))))))))
+        keep ! (8 ∷ 9 ∷ 10 ∷ 11 ∷ 12 ∷ 13 ∷ 14 ∷ 15 ∷ 16 ∷ 17 ∷ 18 ∷ 19 ∷ 20 ∷ 21 ∷ 22 ∷ 23 ∷ 24 ∷ 25 ∷ 26 ∷ 27 ∷ 28 ∷ 29 ∷ 0 ∷ 1 ∷ 2 ∷ 7 ∷ 4 ∷ []) $ again ! Nearer At i
+        (suc (i .0), small less) (sub-suc-lt m (i .0) (small less)))))))))
         (λ over. jumps ! $ exec ! C Λ En pieces.t-6 (atRet En Post) $ assigns ! (of-opd ! (unit-lit !)) (from ! (stop !)) (init ! 20 refl (tt, tt)) $
         returns ! (look ! 20 refl) $ forget ! 20 refl $ forget ! 18 refl $ forget ! 16 refl $ forget ! 14 refl $ forget ! 12 refl $ forget ! 4 refl $
         keep ! (20 ∷ 21 ∷ 18 ∷ 19 ∷ 16 ∷ 17 ∷ 14 ∷ 15 ∷ 12 ∷ 13 ∷ 10 ∷ 11 ∷ 8 ∷ 9 ∷ 6 ∷ 7 ∷ 4 ∷ 5 ∷ 2 ∷ 3 ∷ 0 ∷ 1 ∷ 22 ∷ 23 ∷ 24 ∷ 25 ∷ 26 ∷ []) $
@@ -275,19 +291,32 @@ module _ {M : Type 1} (𝓤 : URA M) (H : Heap 𝓤) (A : Atoms 𝓤) (W : Given
   walk 𝓣 known₀ known₁ =
       qed W ((‵ (flft κ₀ q₀) ⊛ ‵ (flft κ₁ q₁) ⊛ ‵ ftrue) ∷ ‵ (owns (MutSlice (named 0) κ₀ L.the-row ∷ ShrSlice (named 1) κ₁ u32 ∷ []) x at) ∷ []) ∵
       enter ! (𝓣 .C) (𝓣 .Λ) code.function vs _ $
-      alloc1 ! (λ l₀. alloc1 ! (λ l₁. alloc1 ! (λ l₂. alloc1 ! (λ l₃. alloc1 ! (λ l₄. alloc1 ! (λ l₅. alloc1 ! (λ l₆. alloc1 ! (λ l₇. alloc1 ! (λ l₈. alloc1 ! (λ l₉. alloc1 ! (λ l₁₀. alloc0 ! $ params1 ! $
+      alloc1 !
+      (λ l₀. alloc1 !
+      (λ l₁. alloc1 ! (λ l₂. alloc1 ! (λ l₃. alloc1 ! (λ l₄. alloc1 ! (λ l₅. alloc1 ! (λ l₆. alloc1 ! (λ l₇. alloc1 ! (λ l₈. alloc1 ! (λ l₉. alloc1 ! (λ l₁₀. alloc0 ! $ params1 ! $
       pass1 ! (init ! 18 refl (tt, (tt, (record { fits = table-fits .0 }, tt)))) $ pass1 ! (init ! 16 refl (tt, (tt, (record { fits = words-fits .0 }, tt)))) $ pass0 ! $
       move ! (23 ∷ []) $ fsplit ! $ move ! (1 ∷ []) $ fsplit ! $ move ! (25 ∷ []) $ split ! $ move ! (1 ∷ []) $ split ! $
-      assigns ! (of-opd ! (load ! (from ! (fld ! refl (stop !))) (look-in ! 24 (sub ! 1 refl (whole !))))) (from ! (stop !)) (init ! 14 refl (tt, record { fits = table-fits .0 })) $ assigns ! (of-opd ! (load ! (from ! (fld ! refl (stop !))) (look-in ! 22 (sub ! 1 refl (whole !))))) (from ! (stop !)) (init ! 12 refl (tt, record { fits = words-fits .0 })) $
+      assigns ! (of-opd ! (load ! (from ! (fld ! refl (stop !))) (look-in ! 24 (sub ! 1 refl (whole !))))) (from ! (stop !)) (init ! 14 refl (tt, record { fits = table-fits .0 })) $ assigns
+      ! (of-opd ! (load ! (from ! (fld ! refl (stop !))) (look-in ! 22 (sub ! 1 refl (whole !))))) (from ! (stop !)) (init ! 12 refl (tt, record { fits = words-fits .0 })) $
       -- how many are copied
-      use0 W (raw (Copied 𝓤 H A at-mem run .pre to-copied)) goes-copied $ calls-at ! (fmOf 𝓤 H (W .laws) 𝓣) (Copied 𝓤 H A at-mem run) known₀ to-copied (and-then ! (load ! (from ! (stop !)) (look ! 15 refl)) (and-then ! (load ! (from ! (stop !)) (look ! 13 refl)) (no-more !))) (λ w.
-      use1 W (later (some (λ (r : ℕ). (‵ ftrue ⊛ ‵ (usize .own r (w ∷ []))) ⊛ raw (ensured 𝓤 H A h.ended (h.clauses 𝓤 H A at-mem run) tt (n, (lent, tt)) tt r)))) (id⊢ 𝓤 _) $ await ! tt $ pick ! (λ r. split ! $ move ! (1 ∷ []) $ use1 W (some (λ (zs : Unit {0} × (Unit {0} × Unit {0})). ‵ (lasts h.ended tt (n, (lent, tt)) zs) ⊛ raw (fact 𝓤 (r ≡ m)))) (id⊢ 𝓤 _) $ pick ! (λ zs. split ! $ move ! (1 ∷ []) $ heard ! (r ≡ m) (λ e.
-      move ! (1 ∷ []) $ split ! $ move ! (1 ∷ []) $ peeks ! usize (Is usize) (shows 𝓤 H A usize) r (w ∷ []) (λ is. land ! (from ! (stop !)) (init ! 23 refl (uint-lawful 𝓤 H A W w64 .typed r (w ∷ []) is .0)) $
-      rewrite ! 23 (λ (u : Val). ‵ (fat fullShare word l₃ 0 u)) (ap only (is .0 ∙ ap (λ (k : ℕ). vint w64 k ∷ []) e)) refl $ assigns ! (of-opd ! (lit ! tt)) (from ! (stop !)) (init ! 21 refl (tt, record { fits = lit< tt })) $ forget ! 17 refl $ forget ! 15 refl $
-      move ! (8 ∷ []) $ fsplit ! $ move ! (1 ∷ []) $ fsplit ! $ keep ! (11 ∷ 12 ∷ 13 ∷ 14 ∷ 15 ∷ 16 ∷ 17 ∷ 18 ∷ 19 ∷ 20 ∷ 21 ∷ 22 ∷ 23 ∷ 24 ∷ 25 ∷ 26 ∷ 27 ∷ 28 ∷ 29 ∷ 30 ∷ 31 ∷ 32 ∷ 0 ∷ 1 ∷ 8 ∷ 9 ∷ 6 ∷ []) $ first ! $ blocks ! $ loops ! 𝓣 Nearer Nearer-wf (At 𝓣 l₀ l₁ l₂ l₃ l₄ l₅ l₆ l₇ l₈ l₉ l₁₀) (turns 𝓣 l₀ l₁ l₂ l₃ l₄ l₅ l₆ l₇ l₈ l₉ l₁₀ known₁) (0, zero-le)))))))))))))))))
+      use0 W (raw (Copied 𝓤 H A at-mem run .pre to-copied)) goes-copied $ calls-at ! (fmOf 𝓤 H (W .laws) 𝓣) (Copied 𝓤 H A at-mem run) known₀ to-copied
+      (and-then ! (load ! (from ! (stop !)) (look ! 15 refl)) (and-then ! (load ! (from ! (stop !)) (look ! 13 refl)) (no-more !))) (λ w.
+      use1 W (later (some (λ (r : ℕ). (‵ ftrue ⊛ ‵ (usize .own r (w ∷ []))) ⊛ raw (ensured 𝓤 H A h.ended (h.clauses 𝓤 H A at-mem run) tt (n, (lent, tt)) tt r)))) (id⊢ 𝓤 _) $ await ! tt $
+      pick !
+      (λ r. split ! $ move ! (1 ∷ []) $ use1 W (some (λ (zs : Unit {0} × (Unit {0} × Unit {0})). ‵ (lasts h.ended tt (n, (lent, tt)) zs) ⊛ raw (fact 𝓤 (r ≡ m)))) (id⊢ 𝓤 _) $ pick !
+      (λ zs. split ! $ move ! (1 ∷ []) $ heard ! (r ≡ m) (λ e.
+      move ! (1 ∷ []) $ split ! $ move ! (1 ∷ []) $ peeks ! usize (Is usize) (shows 𝓤 H A usize) r (w ∷ [])
+      (λ is. land ! (from ! (stop !)) (init ! 23 refl (uint-lawful 𝓤 H A W w64 .typed r (w ∷ []) is .0)) $
+      rewrite ! 23 (λ (u : Val). ‵ (fat fullShare word l₃ 0 u)) (ap only (is .0 ∙ ap (λ (k : ℕ). vint w64 k ∷ []) e)) refl $ assigns ! (of-opd ! (lit ! tt)) (from ! (stop !))
+      (init ! 21 refl (tt, record { fits = lit< tt })) $ forget ! 17 refl $ forget ! 15 refl $
+      move ! (8 ∷ []) $ fsplit ! $ move ! (1 ∷ []) $ fsplit ! $ keep !
+      (11 ∷ 12 ∷ 13 ∷ 14 ∷ 15 ∷ 16 ∷ 17 ∷ 18 ∷ 19 ∷ 20 ∷ 21 ∷ 22 ∷ 23 ∷ 24 ∷ 25 ∷ 26 ∷ 27 ∷ 28 ∷ 29 ∷ 30 ∷ 31 ∷ 32 ∷ 0 ∷ 1 ∷ 8 ∷ 9 ∷ 6 ∷ []) $ first ! $ blocks ! $ loops ! 𝓣 Nearer Nearer-wf
+      (At 𝓣 l₀ l₁ l₂ l₃ l₄ l₅ l₆ l₇ l₈ l₉ l₁₀) (turns 𝓣 l₀ l₁ l₂ l₃ l₄ l₅ l₆ l₇ l₈ l₉ l₁₀ known₁) (0, zero-le)))))))))))))))))
 
 module _ {M : Type 1} (𝓤 : URA M) (H : Heap 𝓤) (A : Atoms 𝓤) (W : Given 𝓤 H A) (at-mem : Memory → SProp 𝓤) (run : Routine → Fun 𝓤) (𝓣 : Tables 𝓤 H) where
-  nexts-back-walks : Triple 𝓤 (𝓣 .C #copied) (Copied 𝓤 H A at-mem run) → Triple 𝓤 (𝓣 .C #latch-at) (Reads 𝓤 H A at-mem run) → Walks 𝓤 H A f.ended stayed (WpFn 𝓤 H (𝓣 .C) (𝓣 .Λ) code.function) (f.clauses 𝓤 H A at-mem run)
+  nexts-back-walks :
+      Triple 𝓤 (𝓣 .C #copied) (Copied 𝓤 H A at-mem run) → Triple 𝓤 (𝓣 .C #latch-at) (Reads 𝓤 H A at-mem run) → Walks 𝓤 H A f.ended stayed (WpFn 𝓤 H (𝓣 .C) (𝓣 .Λ) code.function)
+      (f.clauses 𝓤 H A at-mem run)
   nexts-back-walks known₀ known₁ = walked 𝓤 H A f.ended stayed (f.clauses 𝓤 H A at-mem run) (WpFn 𝓤 H (𝓣 .C) (𝓣 .Λ) code.function)
       (λ κs. (slice-vals, (slice-vals, tt)))
       (λ κs. (mut-slice-tells (named 0) (κs .0) L.the-row, (shr-slice-tells (named 1) (κs .1 .0) u32, tt)))
@@ -298,8 +327,11 @@ module _ {M : Type 1} (𝓤 : URA M) (H : Heap 𝓤) (A : Atoms 𝓤) (W : Given
   all-go : AllGo 𝓤 H A W 2 (f.signature .params) (f.ended .kept) stayed
   all-go = (goes-slice 𝓤 H A W 2 0 tt (plain (λ _. L.the-row)), (goes-dropped 𝓤 H A W 2 (shrSliceOf (1 ∷ []) tt (plain (λ _. u32))) yes (λ κs x f. refl), tt))
 
-  nexts-back-meets : Triple 𝓤 (𝓣 .C #copied) (Copied 𝓤 H A at-mem run) → Triple 𝓤 (𝓣 .C #latch-at) (Reads 𝓤 H A at-mem run) → Meets 𝓤 H A f.signature (WpFn 𝓤 H (𝓣 .C) (𝓣 .Λ) code.function) (f.spec 𝓤 H A at-mem run)
-  nexts-back-meets known₀ known₁ = walk-meets 𝓤 H A f.ended stayed W all-go (f.clauses 𝓤 H A at-mem run) (WpFn 𝓤 H (𝓣 .C) (𝓣 .Λ) code.function) (WpFn-mono 𝓤 H (W .laws) 𝓣 code.function) (nexts-back-walks known₀ known₁)
+  nexts-back-meets :
+      Triple 𝓤 (𝓣 .C #copied) (Copied 𝓤 H A at-mem run) → Triple 𝓤 (𝓣 .C #latch-at) (Reads 𝓤 H A at-mem run) → Meets 𝓤 H A f.signature (WpFn 𝓤 H (𝓣 .C) (𝓣 .Λ) code.function)
+      (f.spec 𝓤 H A at-mem run)
+  nexts-back-meets known₀ known₁ =
+      walk-meets 𝓤 H A f.ended stayed W all-go (f.clauses 𝓤 H A at-mem run) (WpFn 𝓤 H (𝓣 .C) (𝓣 .Λ) code.function) (WpFn-mono 𝓤 H (W .laws) 𝓣 code.function) (nexts-back-walks known₀ known₁)
 
 pub nexts-back-spec : {M : Type 1} → stated.statement M
 unfolding code.routine tablesOf

@@ -24,8 +24,10 @@ use prog.Wp.{Heap, Out, Env, afterSeq, afterBlock, afterTurn, Calls, Loops, Wp, 
 use ghost.Atoms.{Atoms}
 use contract.Monad.{Fun, fact}
 use contract.Running.{givenOf, tables, tablesOf}
-use types.Kit.{Given, Item, ‵, raw, some, later, _⊛_, ⋆, anyQ, atRet, runs, Sq, _$_, _∵_, !, qed, by, move, keep, drop, use0, use1, use2, use3, split, join, pick, rewrite, fsplit, fjoin, feqL, feqI, suffices, frame, await, done}
-use types.Run.{Below, again, loops, first, blocks, branches, skips, jumps, exec, look, look-raw, store, init, forget, stop, hop, fld, from, load, lit, unit-lit, addr, of-opd, and-then, no-more, bin, assigns, assigns-last, land, returns, enter, alloc1, alloc0, params1, pass1, pass0, free1, free0}
+use types.Kit.{Given, Item, ‵, raw, some, later, _⊛_, ⋆, anyQ, atRet, runs, Sq, _$_, _∵_, !, qed, by, move}
+use types.Kit.{keep, drop, use0, use1, use2, use3, split, join, pick, rewrite, fsplit, fjoin, feqL, feqI, suffices, frame, await, done}
+use types.Run.{Below, again, loops, first, blocks, branches, skips, jumps, exec, look, look-raw, store, init, forget, stop, hop, fld, from, load}
+use types.Run.{lit, unit-lit, addr, of-opd, and-then, no-more, bin, assigns, assigns-last, land, returns, enter, alloc1, alloc0, params1, pass1, pass0, free1, free0}
 use types.Part.{agg, whole, sub, look-in}
 use types.Tokens.{lft-new, lft-end}
 use sound.WpLaws.{fmOf, WpFn-mono}
@@ -158,9 +160,9 @@ module _ {M : Type 1} (𝓤 : URA M) (H : Heap 𝓤) (A : Atoms 𝓤) (W : Given
 
   exits : (i : ℕ) → i ≡ m → ent 𝓤 (⋆ 𝓤 H A (Had i)) (Post vunit)
   exits i e =
-      qed W (Had i) ∵
-      suffices ! _ (ends-at 𝓤 H A f.ended stayed (f.clauses 𝓤 H A at-mem run) W bound vunit tt (tt, (S i, tt)) (tt, (sofar-length (table .now) (words .now) i, tt))) $
-      says ! (ap S e ∙ sofar-copied (table .now) (words .now)) $ move ! (2 ∷ []) $ drop ! $ nothing ! $ move ! (2 ∷ 0 ∷ []) $ join ! $ move ! (2 ∷ 0 ∷ []) $ join ! $ frame ! $ nothing ! $ move ! (1 ∷ 0 ∷ []) $ fjoin ! $ nothing ! $ fjoin ! $ feqI ! (List Val) (vunit ∷ []) (vunit ∷ []) refl $ move ! (1 ∷ 0 ∷ []) $ done !
+      qed W (Had i) ∵ suffices ! _ (ends-at 𝓤 H A f.ended stayed (f.clauses 𝓤 H A at-mem run) W bound vunit tt (tt, (S i, tt)) (tt, (sofar-length (table .now) (words .now) i, tt))) $ says !
+      (ap S e ∙ sofar-copied (table .now) (words .now)) $ move ! (2 ∷ []) $ drop ! $ nothing ! $ move ! (2 ∷ 0 ∷ []) $ join ! $ move ! (2 ∷ 0 ∷ []) $ join ! $ frame ! $ nothing ! $ move !
+      (1 ∷ 0 ∷ []) $ fjoin ! $ nothing ! $ fjoin ! $ feqI ! (List Val) (vunit ∷ []) (vunit ∷ []) refl $ move ! (1 ∷ 0 ∷ []) $ done !
 
   -- what `copied` is called with
   abbrev to-copied : Copied 𝓤 H A at-mem run .Ghost
@@ -168,8 +170,8 @@ module _ {M : Type 1} (𝓤 : URA M) (H : Heap 𝓤) (A : Atoms 𝓤) (W : Given
 
   goes-copied : ent 𝓤 (emp 𝓤) (Copied 𝓤 H A at-mem run .pre to-copied)
   goes-copied =
-      qed W [] ∵
-      owned ! usize (Is usize) (uint-makes 𝓤 H A W w64) n _ (refl, table-fits .0) $ owned ! usize (Is usize) (uint-makes 𝓤 H A W w64) lent _ (refl, words-fits .0) $ nothing ! $ move ! (1 ∷ 0 ∷ []) $ fjoin ! $ move ! (1 ∷ 0 ∷ []) $ fjoin ! $ nothing ! $ join ! $ frame ! $ done !
+      qed W [] ∵ owned ! usize (Is usize) (uint-makes 𝓤 H A W w64) n _ (refl, table-fits .0) $ owned ! usize (Is usize) (uint-makes 𝓤 H A W w64) lent _ (refl, words-fits .0) $ nothing ! $
+      move ! (1 ∷ 0 ∷ []) $ fjoin ! $ move ! (1 ∷ 0 ∷ []) $ fjoin ! $ nothing ! $ join ! $ frame ! $ done !
 
   -- what `write_latch` is called with in turn i: the words, lent again for ν under the name δ
   abbrev lent-again : GName → List ℕ → RefT (List ℕ)
@@ -206,7 +208,9 @@ module _ {M : Type 1} (𝓤 : URA M) (H : Heap 𝓤) (A : Atoms 𝓤) (W : Given
     Λ = 𝓣 .Λ
 
     abbrev En : Env 𝓤 H
-    En = (tyUnit, l₀) ∷ (slice-t, l₁) ∷ (slice-o, l₂) ∷ (word, l₃) ∷ (word, l₄) ∷ (word, l₅) ∷ (word, l₆) ∷ (tyBool, l₇) ∷ (tyUnit, l₈) ∷ (thin, l₉) ∷ (fat-slice, l₁₀) ∷ (word, l₁₁) ∷ (tyPtr, l₁₂) ∷ (L′.mir, l₁₃) ∷ []
+    En =
+        (tyUnit, l₀) ∷ (slice-t, l₁) ∷ (slice-o, l₂) ∷ (word, l₃) ∷ (word, l₄) ∷ (word, l₅) ∷ (word, l₆) ∷ (tyBool, l₇) ∷ (tyUnit, l₈) ∷ (thin, l₉) ∷ (fat-slice, l₁₀) ∷ (word, l₁₁) ∷
+        (tyPtr, l₁₂) ∷ (L′.mir, l₁₃) ∷ []
 
     abbrev At : Upto → List (Item 𝓤)
     At i =
@@ -234,32 +238,57 @@ module _ {M : Type 1} (𝓤 : URA M) (H : Heap 𝓤) (A : Atoms 𝓤) (W : Given
     unfolding afterTurn
     turns known i =
         -- [_13; …; _12; …; _11; …; _10; …; _9; …; _8; …; _7; …; _6; …; _5; …; _4; …; _3; …; _2; …; _1; …; _0; …; what words owns; token 1; what table owns; token 0]
-        assigns ! (bin ! (load ! (from ! (stop !)) (look ! 18 refl)) (load ! (from ! (stop !)) (look ! 20 refl)) tt) (from ! (stop !)) (init ! 12 refl (tt, tt)) $ first ! $ branches ! (load ! (from ! (stop !)) (look ! 12 refl))
+        assigns ! (bin ! (load ! (from ! (stop !)) (look ! 18 refl)) (load ! (from ! (stop !)) (look ! 20 refl)) tt) (from ! (stop !)) (init ! 12 refl (tt, tt)) $ first ! $ branches !
+        (load ! (from ! (stop !)) (look ! 12 refl))
         (λ less. skips ! $ exec ! C Λ En more (anyQ (Turned i)) $
-        assigns ! (addr ! (from ! (fld ! refl (hop ! (look-in ! 22 (sub ! 0 refl (whole !))) (stop !))))) (from ! (stop !)) (init ! 8 refl (tt, tt)) $ assigns ! (agg ! (and-then ! (load ! (from ! (stop !)) (look ! 8 refl)) (and-then ! (load ! (from ! (fld ! refl (stop !))) (look-in ! 22 (sub ! 1 refl (whole !)))) (no-more !)))) (from ! (stop !)) (init ! 6 refl (tt, (tt, (record { fits = words-fits .0 }, tt)))) $
-        assigns ! (bin ! (load ! (from ! (stop !)) (look ! 18 refl)) (lit ! tt) (record { fits = by-12 less })) (from ! (stop !)) (init ! 4 refl (tt, record { fits = by-12 less })) $ assigns ! (bin ! (load ! (from ! (fld ! refl (stop !))) (look-in ! 24 (sub ! 0 refl (whole !)))) (load ! (from ! (stop !)) (look ! 4 refl)) tt) (from ! (stop !)) (init ! 2 refl (tt, tt)) $
+        assigns ! (addr ! (from ! (fld ! refl (hop ! (look-in ! 22 (sub ! 0 refl (whole !))) (stop !))))) (from ! (stop !)) (init ! 8 refl (tt, tt)) $ assigns !
+        (agg ! (and-then ! (load ! (from ! (stop !)) (look ! 8 refl)) (and-then ! (load ! (from ! (fld ! refl (stop !))) (look-in ! 22 (sub ! 1 refl (whole !)))) (no-more !))))
+        (from ! (stop !)) (init ! 6 refl (tt, (tt, (record { fits = words-fits .0 }, tt)))) $
+        assigns ! (bin ! (load ! (from ! (stop !)) (look ! 18 refl)) (lit ! tt) (record { fits = by-12 less })) (from ! (stop !)) (init ! 4 refl (tt, record { fits = by-12 less })) $ assigns
+        ! (bin ! (load ! (from ! (fld ! refl (stop !))) (look-in ! 24 (sub ! 0 refl (whole !)))) (load ! (from ! (stop !)) (look ! 4 refl)) tt) (from ! (stop !)) (init ! 2 refl (tt, tt)) $
         rewrite ! 2 (λ (p : ℕ). ‵ (fat fullShare tyPtr l₁₂ 0 (vptr (table .ptr .0) p))) (sym (place-is 12 (table .ptr .1) (i .0))) refl $
         -- the table is looked into, and the record is read
         move ! (30 ∷ []) $ fsplit ! $ move ! (1 ∷ []) $ fsplit ! $ move ! (1 ∷ 33 ∷ []) $
-        looks-slice ! tt L.the-row (Is L.the-row) (shows 𝓤 H A L.the-row) L-vals (LL.tells L.the-type L′.the-laws) (LL.copy L.the-type L′.the-copy 𝓤 H A W) (table .now) (table .ptr .0) (table .ptr .1) (λ s.
+        looks-slice ! tt L.the-row (Is L.the-row) (shows 𝓤 H A L.the-row) L-vals (LL.tells L.the-type L′.the-laws) (LL.copy L.the-type L′.the-copy 𝓤 H A W) (table .now) (table .ptr .0)
+        (table .ptr .1) (λ s.
         elem-out ! L.the-row (Is L.the-row) (shows 𝓤 H A L.the-row) L-vals (LL.tells L.the-type L′.the-laws) s (table .now) (i .0) noLatch (table .ptr .0) (table .ptr .1) (record-there less) (λ g.
-        assigns ! (of-opd ! (load ! (from ! (hop ! (look ! 9 refl) (stop !))) (look-raw ! 0 refl))) (from ! (stop !)) (init ! 7 refl (LL.lawful L.the-type L′.the-laws 𝓤 H A W .typed (elem (i .0)) (L-vals (elem (i .0))) g .0)) $
-        elem-back ! L.the-row s (table .now) (i .0) noLatch (L-vals (elem (i .0))) (table .ptr .0) (table .ptr .1) (record-there less) $ shuts-slice ! tt L.the-row s (table .now) (table .ptr .0) (table .ptr .1) $ move ! (2 ∷ 1 ∷ []) $ fjoin ! $ move ! (2 ∷ 0 ∷ []) $ fjoin ! $
+        assigns ! (of-opd ! (load ! (from ! (hop ! (look ! 9 refl) (stop !))) (look-raw ! 0 refl))) (from ! (stop !))
+        (init ! 7 refl (LL.lawful L.the-type L′.the-laws 𝓤 H A W .typed (elem (i .0)) (L-vals (elem (i .0))) g .0)) $
+        elem-back ! L.the-row s (table .now) (i .0) noLatch (L-vals (elem (i .0))) (table .ptr .0) (table .ptr .1) (record-there less) $ shuts-slice ! tt L.the-row s (table .now)
+        (table .ptr .0) (table .ptr .1) $ move ! (2 ∷ 1 ∷ []) $ fjoin ! $ move ! (2 ∷ 0 ∷ []) $ fjoin ! $
         -- the words are lent again to `write_latch`
         lft-new ! tt (λ ν. move ! (31 ∷ 32 ∷ []) $
-        use2 W (later (some (λ (δ : GName). ‵ (MutSlice (named 0) (ν ∷ []) u32 .own (lent-again δ (S (i .0))) (so ∷ [])) ⊛ ‵ (LentAgain u32 κ₁ (ν ∷ []) q₁ (words .name) (words .ptr .0) (words .ptr .1) δ (S (i .0)))))) (lends-again u32 κ₁ (ν ∷ []) q₁ (words .name) (words .ptr .0) (words .ptr .1) 𝓤 H A W (named 1) (named 0) (S (i .0)) lent (S-length (i .0))) $ await ! tt $ pick ! (λ δ. split ! $
+        use2 W
+        (later
+        (some
+        (λ (δ : GName). ‵ (MutSlice (named 0) (ν ∷ []) u32 .own (lent-again δ (S (i .0))) (so ∷ [])) ⊛ ‵
+        (LentAgain u32 κ₁ (ν ∷ []) q₁ (words .name) (words .ptr .0) (words .ptr .1) δ (S (i .0))))))
+        (lends-again u32 κ₁ (ν ∷ []) q₁ (words .name) (words .ptr .0) (words .ptr .1) 𝓤 H A W (named 1) (named 0) (S (i .0)) lent (S-length (i .0))) $ await ! tt $ pick ! (λ δ. split ! $
         move ! (2 ∷ 0 ∷ []) $ use2 W (raw (Writes 𝓤 H A at-mem run .pre (to-write ν δ (i .0)))) (goes-write ν δ (i .0) (idx less) g (room less)) $
-        calls-at ! (fmOf 𝓤 H (W .laws) 𝓣) (Writes 𝓤 H A at-mem run) known (to-write ν δ (i .0)) (and-then ! (load ! (from ! (stop !)) (look ! 10 refl)) (and-then ! (load ! (from ! (stop !)) (look ! 22 refl)) (and-then ! (load ! (from ! (stop !)) (look ! 4 refl)) (no-more !)))) (λ w.
-        use1 W (later (some (λ (r : Unit {0}). ((‵ (flft (ν ∷ []) fullShare) ⊛ ‵ ftrue) ⊛ ‵ (unit .own r (w ∷ []))) ⊛ raw (ensured 𝓤 H A k.ended (k.clauses 𝓤 H A at-mem run) (ν ∷ [], tt) (write-args δ (i .0)) tt r)))) (id⊢ 𝓤 _) $ await ! tt $ pick ! (λ r. split ! $ move ! (1 ∷ []) $
-        use1 W (some (λ (zs : List ℕ × (Unit {0} × (Unit {0} × Unit {0}))). ‵ (lasts k.ended (ν ∷ [], tt) (write-args δ (i .0)) zs) ⊛ raw (fact 𝓤 (zs .0 ≡ S (suc (i .0)))))) (id⊢ 𝓤 _) $ pick ! (λ zs. split ! $ move ! (1 ∷ []) $ heard ! (zs .0 ≡ S (suc (i .0))) (λ e.
-        fsplit ! $ fsplit ! $ move ! (1 ∷ []) $ feqL ! (λ len. move ! (2 ∷ []) $ split ! $ move ! (1 ∷ []) $ peeks ! unit (Is unit) (shows 𝓤 H A unit) r (w ∷ []) (λ is. land ! (from ! (stop !)) (init ! 17 refl (nothing-lawful 𝓤 H A W .typed r (w ∷ []) is .0)) $
+        calls-at ! (fmOf 𝓤 H (W .laws) 𝓣) (Writes 𝓤 H A at-mem run) known (to-write ν δ (i .0))
+        (and-then ! (load ! (from ! (stop !)) (look ! 10 refl)) (and-then ! (load ! (from ! (stop !)) (look ! 22 refl)) (and-then ! (load ! (from ! (stop !)) (look ! 4 refl)) (no-more !))))
+        (λ w.
+        use1 W
+        (later
+        (some
+        (λ (r : Unit {0}). ((‵ (flft (ν ∷ []) fullShare) ⊛ ‵ ftrue) ⊛ ‵ (unit .own r (w ∷ []))) ⊛ raw
+        (ensured 𝓤 H A k.ended (k.clauses 𝓤 H A at-mem run) (ν ∷ [], tt) (write-args δ (i .0)) tt r)))) (id⊢ 𝓤 _) $ await ! tt $ pick ! (λ r. split ! $ move ! (1 ∷ []) $
+        use1 W (some (λ (zs : List ℕ × (Unit {0} × (Unit {0} × Unit {0}))). ‵ (lasts k.ended (ν ∷ [], tt) (write-args δ (i .0)) zs) ⊛ raw (fact 𝓤 (zs .0 ≡ S (suc (i .0)))))) (id⊢ 𝓤 _) $ pick
+        ! (λ zs. split ! $ move ! (1 ∷ []) $ heard ! (zs .0 ≡ S (suc (i .0))) (λ e.
+        fsplit ! $ fsplit ! $ move ! (1 ∷ []) $ feqL !
+        (λ len. move ! (2 ∷ []) $ split ! $ move ! (1 ∷ []) $ peeks ! unit (Is unit) (shows 𝓤 H A unit) r (w ∷ [])
+        (λ is. land ! (from ! (stop !)) (init ! 17 refl (nothing-lawful 𝓤 H A W .typed r (w ∷ []) is .0)) $
         -- and come back
         move ! (1 ∷ []) $ split ! $ lft-end ! tt $ move ! (0 ∷ 5 ∷ 3 ∷ []) $
-        use3 W (later (‵ (MutSlice (named 1) κ₁ u32 .own (out (zs .0)) (so ∷ [])) ⊛ ‵ (flft κ₁ q₁))) (comes-back u32 κ₁ (ν ∷ []) q₁ (words .name) (words .ptr .0) (words .ptr .1) 𝓤 H A W (named 1) (named 0) (S (i .0)) lent (S-length (i .0)) δ (zs .0) words-fits len) $ await ! tt $ split ! $
+        use3 W (later (‵ (MutSlice (named 1) κ₁ u32 .own (out (zs .0)) (so ∷ [])) ⊛ ‵ (flft κ₁ q₁)))
+        (comes-back u32 κ₁ (ν ∷ []) q₁ (words .name) (words .ptr .0) (words .ptr .1) 𝓤 H A W (named 1) (named 0) (S (i .0)) lent (S-length (i .0)) δ (zs .0) words-fits len) $ await ! tt $
+        split ! $
         rewrite ! 0 (λ (l : List ℕ). ‵ (MutSlice (named 1) κ₁ u32 .own (out l) (so ∷ []))) e refl $
-        assigns-last ! (bin ! (load ! (from ! (stop !)) (look ! 25 refl)) (lit ! tt) (record { fits = one-more less })) (from ! (stop !)) (store ! 25 refl (tt, record { fits = one-more less })) $ rewrite ! 25 (λ (j : ℕ). ‵ (fat fullShare word l₄ 0 (vint w64 j))) (add-one (i .0)) refl $
+        assigns-last ! (bin ! (load ! (from ! (stop !)) (look ! 25 refl)) (lit ! tt) (record { fits = one-more less })) (from ! (stop !))
+        (store ! 25 refl (tt, record { fits = one-more less })) $ rewrite ! 25 (λ (j : ℕ). ‵ (fat fullShare word l₄ 0 (vint w64 j))) (add-one (i .0)) refl $
         forget ! 19 refl $ forget ! 17 refl $ forget ! 15 refl $ forget ! 13 refl $ forget ! 11 refl $ forget ! 9 refl $ forget ! 7 refl $
-        keep ! (7 ∷ 8 ∷ 9 ∷ 10 ∷ 11 ∷ 12 ∷ 13 ∷ 14 ∷ 15 ∷ 16 ∷ 17 ∷ 18 ∷ 19 ∷ 20 ∷ 21 ∷ 22 ∷ 23 ∷ 24 ∷ 25 ∷ 26 ∷ 27 ∷ 28 ∷ 29 ∷ 30 ∷ 31 ∷ 32 ∷ 33 ∷ 34 ∷ 0 ∷ 1 ∷ 5 ∷ 6 ∷ []) $ again ! Nearer At i (suc (i .0), small less) (sub-suc-lt m (i .0) (small less)))))))))))))
+        keep ! (7 ∷ 8 ∷ 9 ∷ 10 ∷ 11 ∷ 12 ∷ 13 ∷ 14 ∷ 15 ∷ 16 ∷ 17 ∷ 18 ∷ 19 ∷ 20 ∷ 21 ∷ 22 ∷ 23 ∷ 24 ∷ 25 ∷ 26 ∷ 27 ∷ 28 ∷ 29 ∷ 30 ∷ 31 ∷ 32 ∷ 33 ∷ 34 ∷ 0 ∷ 1 ∷ 5 ∷ 6 ∷ []) $ again ! Nearer
+        At i (suc (i .0), small less) (sub-suc-lt m (i .0) (small less)))))))))))))
         (λ over. jumps ! $ exec ! C Λ En pieces.t-6 (atRet En Post) $ assigns ! (of-opd ! (unit-lit !)) (from ! (stop !)) (init ! 26 refl (tt, tt)) $
         returns ! (look ! 26 refl) $ forget ! 26 refl $ forget ! 24 refl $ forget ! 22 refl $ forget ! 20 refl $ forget ! 18 refl $ forget ! 12 refl $
         keep ! (26 ∷ 27 ∷ 24 ∷ 25 ∷ 22 ∷ 23 ∷ 20 ∷ 21 ∷ 18 ∷ 19 ∷ 16 ∷ 17 ∷ 14 ∷ 15 ∷ 12 ∷ 13 ∷ 10 ∷ 11 ∷ 8 ∷ 9 ∷ 6 ∷ 7 ∷ 4 ∷ 5 ∷ 2 ∷ 3 ∷ 0 ∷ 1 ∷ 28 ∷ 29 ∷ 30 ∷ 31 ∷ []) $
@@ -289,19 +318,35 @@ module _ {M : Type 1} (𝓤 : URA M) (H : Heap 𝓤) (A : Atoms 𝓤) (W : Given
   walk 𝓣 known₀ known₁ =
       qed W ((‵ (flft κ₀ q₀) ⊛ ‵ (flft κ₁ q₁) ⊛ ‵ ftrue) ∷ ‵ (owns (ShrSlice (named 0) κ₀ L.the-row ∷ MutSlice (named 1) κ₁ u32 ∷ []) x at) ∷ []) ∵
       enter ! (𝓣 .C) (𝓣 .Λ) code.function vs _ $
-      alloc1 ! (λ l₀. alloc1 ! (λ l₁. alloc1 ! (λ l₂. alloc1 ! (λ l₃. alloc1 ! (λ l₄. alloc1 ! (λ l₅. alloc1 ! (λ l₆. alloc1 ! (λ l₇. alloc1 ! (λ l₈. alloc1 ! (λ l₉. alloc1 ! (λ l₁₀. alloc1 ! (λ l₁₁. alloc1 ! (λ l₁₂. alloc1 ! (λ l₁₃. alloc0 ! $ params1 ! $
+      alloc1 !
+      (λ l₀. alloc1 !
+      (λ l₁. alloc1 !
+      (λ l₂. alloc1 !
+      (λ l₃. alloc1 !
+      (λ l₄. alloc1 ! (λ l₅. alloc1 ! (λ l₆. alloc1 ! (λ l₇. alloc1 ! (λ l₈. alloc1 ! (λ l₉. alloc1 ! (λ l₁₀. alloc1 ! (λ l₁₁. alloc1 ! (λ l₁₂. alloc1 ! (λ l₁₃. alloc0 ! $ params1 ! $
       pass1 ! (init ! 24 refl (tt, (tt, (record { fits = table-fits .0 }, tt)))) $ pass1 ! (init ! 22 refl (tt, (tt, (record { fits = words-fits .0 }, tt)))) $ pass0 ! $
       move ! (29 ∷ []) $ fsplit ! $ move ! (1 ∷ []) $ fsplit ! $ move ! (31 ∷ []) $ split ! $ move ! (1 ∷ []) $ split ! $
-      assigns ! (of-opd ! (load ! (from ! (fld ! refl (stop !))) (look-in ! 30 (sub ! 1 refl (whole !))))) (from ! (stop !)) (init ! 22 refl (tt, record { fits = table-fits .0 })) $ assigns ! (of-opd ! (load ! (from ! (fld ! refl (stop !))) (look-in ! 28 (sub ! 1 refl (whole !))))) (from ! (stop !)) (init ! 20 refl (tt, record { fits = words-fits .0 })) $
+      assigns ! (of-opd ! (load ! (from ! (fld ! refl (stop !))) (look-in ! 30 (sub ! 1 refl (whole !))))) (from ! (stop !)) (init ! 22 refl (tt, record { fits = table-fits .0 })) $ assigns
+      ! (of-opd ! (load ! (from ! (fld ! refl (stop !))) (look-in ! 28 (sub ! 1 refl (whole !))))) (from ! (stop !)) (init ! 20 refl (tt, record { fits = words-fits .0 })) $
       -- how many are copied
-      use0 W (raw (Copied 𝓤 H A at-mem run .pre to-copied)) goes-copied $ calls-at ! (fmOf 𝓤 H (W .laws) 𝓣) (Copied 𝓤 H A at-mem run) known₀ to-copied (and-then ! (load ! (from ! (stop !)) (look ! 23 refl)) (and-then ! (load ! (from ! (stop !)) (look ! 21 refl)) (no-more !))) (λ w.
-      use1 W (later (some (λ (r : ℕ). (‵ ftrue ⊛ ‵ (usize .own r (w ∷ []))) ⊛ raw (ensured 𝓤 H A h.ended (h.clauses 𝓤 H A at-mem run) tt (n, (lent, tt)) tt r)))) (id⊢ 𝓤 _) $ await ! tt $ pick ! (λ r. split ! $ move ! (1 ∷ []) $ use1 W (some (λ (zs : Unit {0} × (Unit {0} × Unit {0})). ‵ (lasts h.ended tt (n, (lent, tt)) zs) ⊛ raw (fact 𝓤 (r ≡ m)))) (id⊢ 𝓤 _) $ pick ! (λ zs. split ! $ move ! (1 ∷ []) $ heard ! (r ≡ m) (λ e.
-      move ! (1 ∷ []) $ split ! $ move ! (1 ∷ []) $ peeks ! usize (Is usize) (shows 𝓤 H A usize) r (w ∷ []) (λ is. land ! (from ! (stop !)) (init ! 29 refl (uint-lawful 𝓤 H A W w64 .typed r (w ∷ []) is .0)) $
-      rewrite ! 29 (λ (u : Val). ‵ (fat fullShare word l₃ 0 u)) (ap only (is .0 ∙ ap (λ (k : ℕ). vint w64 k ∷ []) e)) refl $ assigns ! (of-opd ! (lit ! tt)) (from ! (stop !)) (init ! 27 refl (tt, record { fits = lit< tt })) $ forget ! 25 refl $ forget ! 23 refl $
-      keep ! (9 ∷ 10 ∷ 11 ∷ 12 ∷ 13 ∷ 14 ∷ 15 ∷ 16 ∷ 17 ∷ 18 ∷ 19 ∷ 20 ∷ 21 ∷ 22 ∷ 23 ∷ 24 ∷ 25 ∷ 26 ∷ 27 ∷ 28 ∷ 29 ∷ 30 ∷ 31 ∷ 32 ∷ 33 ∷ 34 ∷ 35 ∷ 36 ∷ 6 ∷ 3 ∷ 8 ∷ 5 ∷ []) $ first ! $ blocks ! $ loops ! 𝓣 Nearer Nearer-wf (At 𝓣 l₀ l₁ l₂ l₃ l₄ l₅ l₆ l₇ l₈ l₉ l₁₀ l₁₁ l₁₂ l₁₃) (turns 𝓣 l₀ l₁ l₂ l₃ l₄ l₅ l₆ l₇ l₈ l₉ l₁₀ l₁₁ l₁₂ l₁₃ known₁) (0, zero-le))))))))))))))))))))
+      use0 W (raw (Copied 𝓤 H A at-mem run .pre to-copied)) goes-copied $ calls-at ! (fmOf 𝓤 H (W .laws) 𝓣) (Copied 𝓤 H A at-mem run) known₀ to-copied
+      (and-then ! (load ! (from ! (stop !)) (look ! 23 refl)) (and-then ! (load ! (from ! (stop !)) (look ! 21 refl)) (no-more !))) (λ w.
+      use1 W (later (some (λ (r : ℕ). (‵ ftrue ⊛ ‵ (usize .own r (w ∷ []))) ⊛ raw (ensured 𝓤 H A h.ended (h.clauses 𝓤 H A at-mem run) tt (n, (lent, tt)) tt r)))) (id⊢ 𝓤 _) $ await ! tt $
+      pick !
+      (λ r. split ! $ move ! (1 ∷ []) $ use1 W (some (λ (zs : Unit {0} × (Unit {0} × Unit {0})). ‵ (lasts h.ended tt (n, (lent, tt)) zs) ⊛ raw (fact 𝓤 (r ≡ m)))) (id⊢ 𝓤 _) $ pick !
+      (λ zs. split ! $ move ! (1 ∷ []) $ heard ! (r ≡ m) (λ e.
+      move ! (1 ∷ []) $ split ! $ move ! (1 ∷ []) $ peeks ! usize (Is usize) (shows 𝓤 H A usize) r (w ∷ [])
+      (λ is. land ! (from ! (stop !)) (init ! 29 refl (uint-lawful 𝓤 H A W w64 .typed r (w ∷ []) is .0)) $
+      rewrite ! 29 (λ (u : Val). ‵ (fat fullShare word l₃ 0 u)) (ap only (is .0 ∙ ap (λ (k : ℕ). vint w64 k ∷ []) e)) refl $ assigns ! (of-opd ! (lit ! tt)) (from ! (stop !))
+      (init ! 27 refl (tt, record { fits = lit< tt })) $ forget ! 25 refl $ forget ! 23 refl $
+      keep ! (9 ∷ 10 ∷ 11 ∷ 12 ∷ 13 ∷ 14 ∷ 15 ∷ 16 ∷ 17 ∷ 18 ∷ 19 ∷ 20 ∷ 21 ∷ 22 ∷ 23 ∷ 24 ∷ 25 ∷ 26 ∷ 27 ∷ 28 ∷ 29 ∷ 30 ∷ 31 ∷ 32 ∷ 33 ∷ 34 ∷ 35 ∷ 36 ∷ 6 ∷ 3 ∷ 8 ∷ 5 ∷ []) $ first ! $
+      blocks ! $ loops ! 𝓣 Nearer Nearer-wf (At 𝓣 l₀ l₁ l₂ l₃ l₄ l₅ l₆ l₇ l₈ l₉ l₁₀ l₁₁ l₁₂ l₁₃) (turns 𝓣 l₀ l₁ l₂ l₃ l₄ l₅ l₆ l₇ l₈ l₉ l₁₀ l₁₁ l₁₂ l₁₃ known₁)
+      (0, zero-le))))))))))))))))))))
 
 module _ {M : Type 1} (𝓤 : URA M) (H : Heap 𝓤) (A : Atoms 𝓤) (W : Given 𝓤 H A) (at-mem : Memory → SProp 𝓤) (run : Routine → Fun 𝓤) (𝓣 : Tables 𝓤 H) where
-  to-words-walks : Triple 𝓤 (𝓣 .C #copied) (Copied 𝓤 H A at-mem run) → Triple 𝓤 (𝓣 .C #write-latch) (Writes 𝓤 H A at-mem run) → Walks 𝓤 H A f.ended stayed (WpFn 𝓤 H (𝓣 .C) (𝓣 .Λ) code.function) (f.clauses 𝓤 H A at-mem run)
+  to-words-walks :
+      Triple 𝓤 (𝓣 .C #copied) (Copied 𝓤 H A at-mem run) → Triple 𝓤 (𝓣 .C #write-latch) (Writes 𝓤 H A at-mem run) → Walks 𝓤 H A f.ended stayed (WpFn 𝓤 H (𝓣 .C) (𝓣 .Λ) code.function)
+      (f.clauses 𝓤 H A at-mem run)
   to-words-walks known₀ known₁ = walked 𝓤 H A f.ended stayed (f.clauses 𝓤 H A at-mem run) (WpFn 𝓤 H (𝓣 .C) (𝓣 .Λ) code.function)
       (λ κs. (slice-vals, (slice-vals, tt)))
       (λ κs. (shr-slice-tells (named 0) (κs .0) L.the-row, (mut-slice-tells (named 1) (κs .1 .0) u32, tt)))
@@ -312,8 +357,11 @@ module _ {M : Type 1} (𝓤 : URA M) (H : Heap 𝓤) (A : Atoms 𝓤) (W : Given
   all-go : AllGo 𝓤 H A W 2 (f.signature .params) (f.ended .kept) stayed
   all-go = (goes-dropped 𝓤 H A W 2 (shrSliceOf (0 ∷ []) tt (plain (λ _. L.the-row))) yes (λ κs x f. refl), (goes-slice 𝓤 H A W 2 1 tt (plain (λ _. u32)), tt))
 
-  to-words-meets : Triple 𝓤 (𝓣 .C #copied) (Copied 𝓤 H A at-mem run) → Triple 𝓤 (𝓣 .C #write-latch) (Writes 𝓤 H A at-mem run) → Meets 𝓤 H A f.signature (WpFn 𝓤 H (𝓣 .C) (𝓣 .Λ) code.function) (f.spec 𝓤 H A at-mem run)
-  to-words-meets known₀ known₁ = walk-meets 𝓤 H A f.ended stayed W all-go (f.clauses 𝓤 H A at-mem run) (WpFn 𝓤 H (𝓣 .C) (𝓣 .Λ) code.function) (WpFn-mono 𝓤 H (W .laws) 𝓣 code.function) (to-words-walks known₀ known₁)
+  to-words-meets :
+      Triple 𝓤 (𝓣 .C #copied) (Copied 𝓤 H A at-mem run) → Triple 𝓤 (𝓣 .C #write-latch) (Writes 𝓤 H A at-mem run) → Meets 𝓤 H A f.signature (WpFn 𝓤 H (𝓣 .C) (𝓣 .Λ) code.function)
+      (f.spec 𝓤 H A at-mem run)
+  to-words-meets known₀ known₁ =
+      walk-meets 𝓤 H A f.ended stayed W all-go (f.clauses 𝓤 H A at-mem run) (WpFn 𝓤 H (𝓣 .C) (𝓣 .Λ) code.function) (WpFn-mono 𝓤 H (W .laws) 𝓣 code.function) (to-words-walks known₀ known₁)
 
 pub to-words-spec : {M : Type 1} → stated.statement M
 unfolding code.routine tablesOf

@@ -31,13 +31,22 @@ is-gate-requires : tie.Need-is-gate-requires
 is-gate-requires c κs = search needs
 
 returns : tie.Need-returns
-returns c = gate-passed (c .before .before .before .before .before .before .before .args .rows .now) (c .before .before .before .before .before .before .before .args .i) (c .before .is-gate .ensures) (by (c .before .before .before .before .before .before .before .args .marks .now)) (c .before .before .before .before .before .before .before .args .k) (c .before .before .before .before .before .before .before .args .out .now) (c .before .before .before .before .before .before .before .args .marks .now) (c .if1 .taken)
+returns c =
+    let start = c .before .before .before .before .before .before .before in
+    gate-passed (start .args .rows .now) (start .args .i) (c .before .is-gate .ensures) (by (start .args .marks .now)) (start .args .k) (start .args .out .now) (start .args .marks .now)
+    (c .if1 .taken)
 
 renamed-edge-requires : tie.Need-renamed-edge-requires
-renamed-edge-requires c κs = gate-mapped (c .before .before .before .before .before .before .before .before .args .rows .now) (c .before .before .before .before .before .before .before .before .args .i) (c .before .before .is-gate .ensures) (c .before .if1 .left) (c .before .before .before .before .before .before .before .before .args .marks .now) (c .before .before .before .before .before .before .before .before .pre .small) (c .before .before .before .before .before .before .before .before .pre .known) .0
+renamed-edge-requires c κs =
+    let start = c .before .before .before .before .before .before .before .before in
+    gate-mapped (start .args .rows .now) (start .args .i) (c .before .before .is-gate .ensures) (c .before .if1 .left) (start .args .marks .now) (start .pre .small) (start .pre .known) .0
 
 renamed-edge-requires-2 : tie.Need-renamed-edge-requires-2
-renamed-edge-requires-2 c κs = gate-mapped (c .before .before .before .before .before .before .before .before .before .before .args .rows .now) (c .before .before .before .before .before .before .before .before .before .before .args .i) (c .before .before .before .before .is-gate .ensures) (c .before .before .before .if1 .left) (c .before .before .before .before .before .before .before .before .before .before .args .marks .now) (c .before .before .before .before .before .before .before .before .before .before .pre .small) (c .before .before .before .before .before .before .before .before .before .before .pre .known) .1
+renamed-edge-requires-2 c κs =
+    let at-is-gate = c .before .before .before .before in
+    let start = at-is-gate .before .before .before .before .before .before in
+    gate-mapped (start .args .rows .now) (start .args .i) (at-is-gate .is-gate .ensures) (c .before .before .before .if1 .left) (start .args .marks .now) (start .pre .small)
+    (start .pre .known) .1
 
 cast-marks : tie.Need-cast-marks
 cast-marks c = search needs
@@ -52,13 +61,20 @@ add-gate-requires : tie.Need-add-gate-requires
 add-gate-requires c κs = search needs
 
 same-length : tie.Need-same-length
-same-length c = search needs
+same-length c = c .before .before .add-gate .kept .0
 
 same-length-2 : tie.Need-same-length-2
 same-length-2 c = search needs
 
 returns-2 : tie.Need-returns-2
-returns-2 c = gate-rebuilt (c .before .before .before .before .before .before .before .before .before .before .before .before .before .before .before .args .rows .now) (c .before .before .before .before .before .before .before .before .before .before .before .before .before .before .before .args .i) (c .before .before .before .before .before .before .before .before .before .is-gate .ensures) (by (c .before .before .before .before .before .before .before .before .before .before .before .before .before .before .before .args .marks .now)) (c .before .before .before .before .before .before .before .before .before .before .before .before .before .before .before .args .k) (c .before .before .before .before .before .before .before .before .before .before .before .before .before .before .before .args .out .now) (c .before .before .before .before .before .before .before .before .before .before .before .before .before .before .before .args .marks .now) (c .before .before .before .before .before .before .before .before .if1 .left) (c .before .before .before .before .before .before .renamed-edge .ensures) (c .before .before .before .before .renamed-edge2 .ensures) (c .before .before .add-gate .ensures)
+returns-2 c =
+    let at-renamed-edge2 = c .before .before .before .before in
+    let at-renamed-edge = at-renamed-edge2 .before .before in
+    let at-if1 = at-renamed-edge .before .before in
+    let at-is-gate = at-if1 .before in
+    let start = at-is-gate .before .before .before .before .before .before in
+    gate-rebuilt (start .args .rows .now) (start .args .i) (at-is-gate .is-gate .ensures) (by (start .args .marks .now)) (start .args .k) (start .args .out .now) (start .args .marks .now)
+    (at-if1 .if1 .left) (at-renamed-edge .renamed-edge .ensures) (at-renamed-edge2 .renamed-edge2 .ensures) (c .before .before .add-gate .ensures)
 
 pub rebuild-gate-spec : {M : Type 1} → statement M
 rebuild-gate-spec =

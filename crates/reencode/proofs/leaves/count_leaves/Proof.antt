@@ -46,8 +46,11 @@ loop-again c =
     let a = c .before .before .before .before .args in
     let p = c .before .before .before .before .pre in
     let l = c .before .before .before .loop in
-    let leaf = leafAt (a .rows .now) in
-    (search needs, ⊎-elim (λ w. count-taken leaf (l .i) (l .inv .1) (none-leaf (a .rows .now) (a .used) (l .i) (p .1 .0) (p .1 .1) (c .before .before .loop-test .taken) (w .0 .taken)) (w .1)) (λ w. count-left leaf (l .i) (l .inv .1) (else-no-leaf (a .rows .now) (l .i) (w .0 .left)) (w .1)) (c .if1 .came))
+    let leaf = leafAt (a .rows .now) in (
+      search needs,
+      ⊎-elim (λ w. count-taken leaf (l .i) (l .inv .1) (none-leaf (a .rows .now) (a .used) (l .i) (p .1 .0) (p .1 .1) (c .before .before .loop-test .taken) (w .0 .taken)) (w .1))
+          (λ w. count-left leaf (l .i) (l .inv .1) (else-no-leaf (a .rows .now) (l .i) (w .0 .left)) (w .1)) (c .if1 .came),
+    )
 
 returns : tie.Need-returns Inv-loop μ-loop
 returns c = rw (le-antisymm (c .before .loop .inv .0) (c .loop-test .left)) at (c .before .loop .inv .1)

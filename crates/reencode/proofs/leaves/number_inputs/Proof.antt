@@ -5,7 +5,7 @@ use native.Mathlib.Omega.{arith}
 use native.Mathlib.Nat.{le-antisymm}
 use mathlib.Core.Path.{_≡_, refl}
 use lib.ListN.{length, getD}
-use Rattle.reencode.specs.Numbers.{placed}
+use Rattle.reencode.specs.Steps.{placed}
 use Rattle.reencode.proofs.Placing.{placed-turn}
 use borrow.Author.Needs.{needs}
 use Rattle.reencode.proofs.leaves.number_inputs.Statement.{statement}
@@ -49,7 +49,12 @@ loop-less : tie.Need-loop-less Inv-loop μ-loop
 loop-less c = search needs
 
 loop-again : tie.Need-loop-again Inv-loop μ-loop
-loop-again c = (search needs, search needs, placed-turn (c .before .before .before .args .marks .now) (λ (i : ℕ). getD (c .before .before .before .args .inputs .now) i 0) 1 (c .before .before .loop .j) (c .before .before .loop .inv .2) refl refl)
+loop-again c = (
+  search needs,
+  search needs,
+  placed-turn (c .before .before .before .args .marks .now) (λ (i : ℕ). getD (c .before .before .before .args .inputs .now) i 0) 1 (c .before .before .loop .j)
+      (c .before .before .loop .inv .2) refl refl,
+)
 
 same-length : tie.Need-same-length Inv-loop μ-loop
 same-length c = search needs

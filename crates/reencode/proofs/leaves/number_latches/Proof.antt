@@ -7,7 +7,7 @@ use mathlib.Core.Path.{_≡_, refl, ap}
 use lib.ListN.{length}
 use Rattle.graph.specs.declared.latch.Latch.{Latch}
 use Rattle.graph.specs.Latches.{latchAt}
-use Rattle.reencode.specs.Numbers.{placed}
+use Rattle.reencode.specs.Steps.{placed}
 use Rattle.reencode.proofs.Placing.{placed-turn}
 use borrow.Author.Needs.{needs}
 use Rattle.reencode.proofs.leaves.number_latches.Statement.{statement}
@@ -39,7 +39,14 @@ mul-marks : tie.Need-mul-marks Inv-loop μ-loop
 mul-marks c = search needs
 
 slice-write-marks : tie.Need-slice-write-marks Inv-loop μ-loop
-slice-write-marks c = omega (arith, c .before .before .before .before .before .before .pre .1 .marked (c .before .before .before .loop .j) (c .before .before .loop-test .taken), c .before .before .before .loop .inv .1, ap (λ (l : Latch). l .input) (c .before .latch-at .ensures))
+slice-write-marks c =
+    let start = c .before .before .before .before .before .before in
+    omega (
+      arith,
+      start .pre .1 .marked (c .before .before .before .loop .j) (c .before .before .loop-test .taken),
+      c .before .before .before .loop .inv .1,
+      ap (λ (l : Latch). l .input) (c .before .latch-at .ensures),
+    )
 
 add-j : tie.Need-add-j Inv-loop μ-loop
 add-j c = search needs
@@ -48,7 +55,13 @@ loop-less : tie.Need-loop-less Inv-loop μ-loop
 loop-less c = search needs
 
 loop-again : tie.Need-loop-again Inv-loop μ-loop
-loop-again c = (search needs, search needs, placed-turn (c .before .before .before .before .before .before .args .marks .now) (λ (i : ℕ). latchAt (c .before .before .before .before .before .before .args .latches .now) i .input) (c .before .before .before .before .before .before .args .first) (c .before .before .before .loop .j) (c .before .before .before .loop .inv .2) (ap (λ (l : Latch). l .input) (c .before .latch-at .ensures)) refl)
+loop-again c = (
+  search needs,
+  search needs,
+  placed-turn (c .before .before .before .before .before .before .args .marks .now) (λ (i : ℕ). latchAt (c .before .before .before .before .before .before .args .latches .now) i .input)
+      (c .before .before .before .before .before .before .args .first) (c .before .before .before .loop .j) (c .before .before .before .loop .inv .2)
+      (ap (λ (l : Latch). l .input) (c .before .latch-at .ensures)) refl,
+)
 
 same-length : tie.Need-same-length Inv-loop μ-loop
 same-length c = search needs

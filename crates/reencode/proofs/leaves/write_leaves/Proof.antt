@@ -35,14 +35,21 @@ loop-less : tie.Need-loop-less Inv-loop μ-loop
 loop-less c = search needs
 
 loop-again : tie.Need-loop-again Inv-loop μ-loop
-loop-again c = (search needs, search needs, λ start e. leaves-turn start (c .before .before .before .before .before .loop .i) (c .before .before .before .before .before .loop .inv .2 start e) (c .before .before .add-row2 .ensures))
+loop-again c = (
+  search needs,
+  search needs,
+  λ start e. leaves-turn start (c .before .before .before .before .before .loop .i) (c .before .before .before .before .before .loop .inv .2 start e) (c .before .before .add-row2 .ensures),
+)
 
 same-length : tie.Need-same-length Inv-loop μ-loop
 same-length c = search needs
 
 returns : tie.Need-returns Inv-loop μ-loop
 unfolding leavesAdded
-returns c = rw (le-antisymm (c .before .loop .inv .0) (c .loop-test .left)) at (c .before .loop .inv .2 (c .before .before .before .before .before .before .before .args .out .now) (c .before .before .before .before .add-row .ensures))
+returns c =
+    let at-add-row = c .before .before .before .before in
+    let start = at-add-row .before .before .before in
+    rw (le-antisymm (c .before .loop .inv .0) (c .loop-test .left)) at (c .before .loop .inv .2 (start .args .out .now) (at-add-row .add-row .ensures))
 
 pub write-leaves-spec : {M : Type 1} → statement M
 write-leaves-spec =

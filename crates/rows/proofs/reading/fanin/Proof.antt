@@ -38,11 +38,15 @@ mul-t14 : tie.Need-mul-t14
 mul-t14 c = search needs
 
 shared-slice-read-t16 : tie.Need-shared-slice-read-t16
-shared-slice-read-t16 c = omega (arith, gate-there _ _ _ (eqb-true _ _ (test-done (c .before .before .before .before .gate-read .ensures) (c .before .before .before .is-done .ensures) (c .before .before .if1 .left))))
+shared-slice-read-t16 c =
+    let at-gate-read = c .before .before .before .before in
+    omega (arith, gate-there _ _ _ (eqb-true _ _ (test-done (at-gate-read .gate-read .ensures) (c .before .before .before .is-done .ensures) (c .before .before .if1 .left))))
 
 returns-2 : tie.Need-returns-2
 unfolding faninCall
-returns-2 c = rw (test-done (c .before .before .before .before .gate-read .ensures) (c .before .before .before .is-done .ensures) (c .before .before .if1 .left), c .before .before .before .before .gate-read .ensures)
+returns-2 c =
+    let at-gate-read = c .before .before .before .before in
+    rw (test-done (at-gate-read .gate-read .ensures) (c .before .before .before .is-done .ensures) (c .before .before .if1 .left), at-gate-read .gate-read .ensures)
 
 pub fanin-spec : {M : Type 1} → statement M
 fanin-spec =

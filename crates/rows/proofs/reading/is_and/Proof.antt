@@ -38,14 +38,19 @@ mul-is-gate-4 : tie.Need-mul-is-gate-4
 mul-is-gate-4 c = search needs
 
 shared-slice-read-is-gate-2 : tie.Need-shared-slice-read-is-gate-2
-shared-slice-read-is-gate-2 c = omega (arith, row-there _ _ _ (eqb-true _ _ (test-done (c .before .before .before .before .row-read .ensures) (c .before .before .before .is-done .ensures) (c .before .before .if1 .left))))
+shared-slice-read-is-gate-2 c =
+    let at-row-read = c .before .before .before .before in
+    omega (arith, row-there _ _ _ (eqb-true _ _ (test-done (at-row-read .row-read .ensures) (c .before .before .before .is-done .ensures) (c .before .before .if1 .left))))
 
 is-gate-requires : tie.Need-is-gate-requires
 is-gate-requires c κs = search needs
 
 returns-2 : tie.Need-returns-2
 unfolding isAndCall
-returns-2 c = rw (test-done (c .before .before .before .before .before .row-read .ensures) (c .before .before .before .before .is-done .ensures) (c .before .before .before .if1 .left), c .is-gate .ensures, c .before .before .before .before .before .row-read .ensures)
+returns-2 c =
+    let at-is-done = c .before .before .before .before in
+    let at-row-read = at-is-done .before in
+    rw (test-done (at-row-read .row-read .ensures) (at-is-done .is-done .ensures) (c .before .before .before .if1 .left), c .is-gate .ensures, at-row-read .row-read .ensures)
 
 pub is-and-spec : {M : Type 1} → statement M
 is-and-spec =

@@ -38,14 +38,19 @@ mul-is-leaf-4 : tie.Need-mul-is-leaf-4
 mul-is-leaf-4 c = search needs
 
 shared-slice-read-is-leaf-2 : tie.Need-shared-slice-read-is-leaf-2
-shared-slice-read-is-leaf-2 c = omega (arith, row-there _ _ _ (eqb-true _ _ (test-done (c .before .before .before .before .row-read .ensures) (c .before .before .before .is-done .ensures) (c .before .before .if1 .left))))
+shared-slice-read-is-leaf-2 c =
+    let at-row-read = c .before .before .before .before in
+    omega (arith, row-there _ _ _ (eqb-true _ _ (test-done (at-row-read .row-read .ensures) (c .before .before .before .is-done .ensures) (c .before .before .if1 .left))))
 
 is-leaf-requires : tie.Need-is-leaf-requires
 is-leaf-requires c κs = search needs
 
 returns-2 : tie.Need-returns-2
 unfolding isLeafCall
-returns-2 c = rw (test-done (c .before .before .before .before .before .row-read .ensures) (c .before .before .before .before .is-done .ensures) (c .before .before .before .if1 .left), c .is-leaf .ensures, c .before .before .before .before .before .row-read .ensures)
+returns-2 c =
+    let at-is-done = c .before .before .before .before in
+    let at-row-read = at-is-done .before in
+    rw (test-done (at-row-read .row-read .ensures) (at-is-done .is-done .ensures) (c .before .before .before .if1 .left), c .is-leaf .ensures, at-row-read .row-read .ensures)
 
 pub is-leaf-spec : {M : Type 1} → statement M
 is-leaf-spec =

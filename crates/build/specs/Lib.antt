@@ -1,6 +1,0 @@
-pub mod Calls
-pub mod Nodes
-pub mod Leaves
-pub mod Placing
-pub mod Meaning
-pub mod Graphs

@@ -1,0 +1,5 @@
+pub mod Answering
+pub mod Adding
+pub mod Keeping
+pub mod Meaning
+pub mod Graphs

@@ -1,0 +1,4 @@
+pub mod Calls
+pub mod Leaves
+pub mod Meaning
+pub mod Graphs

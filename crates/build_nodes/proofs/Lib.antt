@@ -1,0 +1,3 @@
+pub mod Calling
+pub mod Meaning
+pub mod Graphs

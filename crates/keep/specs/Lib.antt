@@ -1,4 +1,0 @@
-pub mod Kept
-pub mod Keeping
-pub mod Copying
-pub mod Ready

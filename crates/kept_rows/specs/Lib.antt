@@ -1,0 +1,4 @@
+pub mod Kept
+pub mod Keeping
+pub mod Copying
+pub mod Steps

@@ -1,5 +1,0 @@
-pub mod Clauses
-pub mod Fanin
-pub mod Influence
-pub mod Run
-pub mod Step

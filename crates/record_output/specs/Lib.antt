@@ -1,4 +1,0 @@
-pub mod Moving
-pub mod Numbering
-pub mod Refining
-pub mod Unrolling

@@ -1,2 +1,0 @@
-pub mod Compress
-pub mod GateInit

@@ -1,4 +1,0 @@
-pub mod Arguments
-pub mod Marking
-pub mod Flags
-pub mod Roots

@@ -1,0 +1,3 @@
+pub mod Table
+pub mod Coding
+pub mod Running
