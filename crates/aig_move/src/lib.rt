@@ -1,4 +1,6 @@
 // A graph whose constraints are moved into a latch: it holds as long as they have, and the first bad and output count only while it does.
+#![tactic(auto)]
+
 mod making;
 
 ghost use Rattle.std.specs.Prelude.{◌≡◌, ◌≤◌, true, length};

@@ -13,7 +13,7 @@ use graph::Counts;
 use rows::kinds::NONE;
 
 // How many rows are used, the latch's next, and the first bad and output by it.
-#[derive(Drop)]
+#[derive(Clone, Copy)]
 pub struct Made {
     pub used: usize,
     pub next: u32,

@@ -1,4 +1,6 @@
 // Constructors of latches, added to a graph that is lent. They look only at counts and edges, and don't scan rows.
+#![tactic(auto)]
+
 ghost use Rattle.std.specs.Prelude.{◌≡◌};
 ghost use Rattle.edge.specs.Answers.{told};
 ghost use Rattle.build_leaves.specs.Calls.{added_seen};

@@ -8,7 +8,7 @@ use edge::Answer;
 use graph::Counts;
 
 // The edge that was built. On a refusal the counts are as given and the edge is 0.
-#[derive(Drop)]
+#[derive(Clone, Copy)]
 pub struct Built {
     pub answer: Answer,
     pub counts: Counts,
@@ -16,7 +16,7 @@ pub struct Built {
 }
 
 // The leaf that was made or listed. On a refusal the counts are as given and the id is 0.
-#[derive(Drop)]
+#[derive(Clone, Copy)]
 pub struct Added {
     pub answer: Answer,
     pub counts: Counts,

@@ -1,4 +1,6 @@
 // Constructors of the first row, leaves and inputs, added to a graph that is lent. They look only at counts, and don't scan rows.
+#![tactic(auto)]
+
 pub mod calls;
 mod leaves;
 

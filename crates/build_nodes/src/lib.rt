@@ -1,4 +1,6 @@
 // The constructors that make an edge. Need is counted before anything is written, by the same steps on no rows.
+#![tactic(auto)]
+
 ghost use Rattle.std.specs.Prelude.{◌≡◌, true, false};
 ghost use Rattle.edge.specs.Answers.{told};
 ghost use Rattle.build_leaves.specs.Calls.{counted, built_seen};

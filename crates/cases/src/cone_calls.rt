@@ -8,7 +8,7 @@ use crate::{lending, slots};
 use edge::Answer;
 
 // How many words the slots have.
-#[derive(Drop)]
+#[derive(Clone, Copy)]
 struct Lengths {
     marks: usize,
     flags: usize,

@@ -1,4 +1,6 @@
 // Replays a script of cases from standard input, and writes what each call answers and leaves.
+#![tactic(auto)]
+
 mod arguments;
 mod build_calls;
 mod check_call;

@@ -4,7 +4,7 @@ use graph::Counts;
 
 // `is_known` is false where there is no such call, or the case does not fit the arrays that the call writes to. Only the first `count`
 // results are the call's.
-#[derive(Drop)]
+#[derive(Clone, Copy)]
 pub struct Outcome {
     pub is_known: bool,
     pub answer: Given,

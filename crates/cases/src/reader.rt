@@ -5,7 +5,7 @@ use libc::STDIN_FILENO;
 
 // Where the next byte stands in the buffer, how many bytes the buffer has, whether the input ended where a number was wanted, and
 // whether what was read cannot be kept. The last two stay once they are set, so a caller may look at them late.
-#[derive(Drop)]
+#[derive(Clone, Copy)]
 pub struct Reader {
     pub at: usize,
     pub filled: usize,
@@ -14,14 +14,14 @@ pub struct Reader {
 }
 
 // A number, and the reader after it.
-#[derive(Drop)]
+#[derive(Clone, Copy)]
 pub struct Got {
     pub reader: Reader,
     pub value: u64,
 }
 
 // A number of 32 bits, and the reader after it.
-#[derive(Drop)]
+#[derive(Clone, Copy)]
 pub struct GotWord {
     pub reader: Reader,
     pub value: u32,

@@ -7,7 +7,7 @@ use crate::{reader, report, writer};
 use libc::STDOUT_FILENO;
 
 // Where reading and writing stand. The run goes on while the reader is good.
-#[derive(Drop)]
+#[derive(Clone, Copy)]
 pub struct Run {
     pub reader: Reader,
     pub writer: Writer,

@@ -5,7 +5,7 @@ use crate::reader::Reader;
 use crate::{reader, slots};
 
 // A case: its call, how much of the arena its slots take, and the reader after it.
-#[derive(Drop)]
+#[derive(Clone, Copy)]
 pub struct Case {
     pub reader: Reader,
     pub call: u64,
@@ -13,7 +13,7 @@ pub struct Case {
 }
 
 // The reader, and how much of the arena is used.
-#[derive(Drop)]
+#[derive(Clone, Copy)]
 pub struct Filled {
     pub reader: Reader,
     pub used: usize,

@@ -9,7 +9,7 @@ use edge::Answer;
 use ternary::ValueAnswer;
 
 // How many words and bytes the slots have.
-#[derive(Drop)]
+#[derive(Clone, Copy)]
 struct Lengths {
     marks: usize,
     input: usize,

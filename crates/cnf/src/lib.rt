@@ -1,4 +1,6 @@
 // The clauses of a graph: the translation that stands in front of a solver.
+#![tactic(auto)]
+
 mod walk;
 
 ghost use Rattle.std.specs.Prelude.{◌≡◌, ◌*◌, ◌≤◌, length, leb};
@@ -20,7 +22,7 @@ use rows::kinds::is_gate;
 use walk::put_rows;
 
 // An answer, and how many words of clauses were written: 0 where it is refused.
-#[derive(Drop)]
+#[derive(Clone, Copy)]
 pub struct ClausesAnswer {
     pub answer: Answer,
     pub words: usize,

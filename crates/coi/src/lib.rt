@@ -1,4 +1,6 @@
 // The cone of influence of rows: all that is reached from them through gates and across latches.
+#![tactic(auto)]
+
 mod links;
 mod walk;
 

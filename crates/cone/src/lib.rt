@@ -1,4 +1,6 @@
 // The cone of edges: their rows and all fanins below.
+#![tactic(auto)]
+
 pub mod below;
 
 ghost use Rattle.std.specs.Prelude.{◌≡◌, true, ◌*◌, ◌≤◌, length};

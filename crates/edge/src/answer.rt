@@ -3,7 +3,7 @@ ghost use Rattle.std.specs.Prelude.{◌≡◌, eqb};
 ghost use Rattle.edge.specs.Answers.{given, told};
 
 // Document 01's numbers 0 to 5, in its order.
-#[derive(Drop)]
+#[derive(Clone, Copy)]
 pub enum Answer {
     Done,
     BadSizes,
@@ -18,7 +18,7 @@ pub enum Answer {
 }
 
 // An answer as document 01 writes it: its number, and its place, which is a row, or a list, an index and a second index.
-#[derive(Drop)]
+#[derive(Clone, Copy)]
 pub struct Given {
     pub number: u8,
     pub place: usize,

@@ -1,4 +1,6 @@
 // Edge codes, and the answers of every call. An edge is 2·id, or 2·id + 1 if complemented; so 0 is false and 1 is true.
+#![tactic(auto)]
+
 mod answer;
 
 ghost use Rattle.std.specs.Prelude.{◌≡◌, eqb};
@@ -7,21 +9,21 @@ ghost use Rattle.edge.specs.Edges.{id_of, is_complemented, complement, complemen
 pub use answer::{Answer, Given, is_done, told};
 
 // An answer, and the edge that comes with it: 0 where it is refused.
-#[derive(Drop)]
+#[derive(Clone, Copy)]
 pub struct EdgeAnswer {
     pub answer: Answer,
     pub edge: u32,
 }
 
 // An answer, and the truth value that comes with it: false where it is refused.
-#[derive(Drop)]
+#[derive(Clone, Copy)]
 pub struct BoolAnswer {
     pub answer: Answer,
     pub value: bool,
 }
 
 // Which constant an edge is, if any.
-#[derive(Drop)]
+#[derive(Clone, Copy)]
 pub enum MaybeConstant {
     False,
     True,

@@ -1,4 +1,6 @@
 // One frame of `unroll`: a step that `unroll` and `unroll_to` share.
+#![tactic(auto)]
+
 mod map;
 mod rebuild;
 
@@ -20,7 +22,7 @@ use map::{grow_lists, new_leaves, start_map};
 use rebuild::{Reached, frame_of};
 
 // Was there room for the frame, and what are the target's counts now? Where there was none they are as given.
-#[derive(Drop)]
+#[derive(Clone, Copy)]
 pub struct Framed {
     pub fits: bool,
     pub counts: Counts,

@@ -13,7 +13,7 @@ use graph::Counts;
 use rows::kinds::NONE;
 
 // How many rows are used, and how many inputs are listed.
-#[derive(Drop)]
+#[derive(Clone, Copy)]
 pub struct Reached {
     pub used: usize,
     pub inputs: usize,

@@ -1,4 +1,6 @@
 // What a gate is written as, an xor, an if-then-else, or plain; and its clauses, written into a buffer.
+#![tactic(auto)]
+
 mod four;
 pub mod put;
 
@@ -10,7 +12,7 @@ use edge::{compl, node_id, not};
 use rows::kinds::is_gate;
 
 // What a row is written as, with its operands. A row that is no gate, or not referenced, is not written.
-#[derive(Drop)]
+#[derive(Clone, Copy)]
 pub enum Shape {
     Unwritten,
     Plain(u32, u32),

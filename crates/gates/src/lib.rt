@@ -1,4 +1,6 @@
 // Rows and gates, step by step. Each step takes the rows as they are lent: where there is none left it writes nothing, and so it counts the need.
+#![tactic(auto)]
+
 pub mod lists;
 
 ghost use Rattle.std.specs.Prelude.{◌≡◌, ◌≤◌, length, set};
@@ -6,14 +8,14 @@ ghost use Rattle.gates.specs.Steps.{step_limit};
 ghost use Rattle.gates.specs.Gates.{state_of, row_added, Sorted, first, second, add_gate, folded, add_and, add_step};
 
 // How many rows are used after a step, and the edge that it built.
-#[derive(Drop)]
+#[derive(Clone, Copy)]
 pub struct Grown {
     pub used: usize,
     pub edge: u32,
 }
 
 // What the AND of two edges comes to: an edge that is there already, or a gate.
-#[derive(Drop)]
+#[derive(Clone, Copy)]
 pub enum Fold {
     To(u32),
     Gate,

@@ -4,7 +4,7 @@ ghost use Rattle.graph.specs.Latches.{latch_words, latch, with_edges, with_next,
 
 use rows::kinds::NONE;
 
-#[derive(Drop)]
+#[derive(Clone, Copy)]
 pub struct Latch {
     // A leaf's id.
     pub input: u32,

@@ -1,4 +1,6 @@
 // A graph as it is lent, and the check of it that every call on a whole graph begins with: answers 1, 2 and 3 of document 01.
+#![tactic(auto)]
+
 pub mod contents;
 mod justice;
 pub mod latch;
@@ -17,7 +19,7 @@ use edge::Answer;
 use sizes::sizes;
 
 // How many rows are used, and how many entries of each list. Justice is sets, each an end, and their edges.
-#[derive(Drop)]
+#[derive(Clone, Copy)]
 pub struct Counts {
     pub rows: usize,
     pub inputs: usize,

@@ -1,4 +1,6 @@
 // The rows that a graph's roots reach across latches: which are kept, their new numbers, and writing them in order.
+#![tactic(auto)]
+
 pub mod copies;
 mod flags;
 mod numbers;

@@ -1,4 +1,6 @@
 // Document 01's marked cases, M1 to M13, as the words that the program `marked_run` runs. That they hold is proved beside it, of the same table.
+#![tactic(auto)]
+
 mod table;
 
 ghost use Rattle.std.specs.Prelude.{◌≡◌};

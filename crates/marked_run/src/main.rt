@@ -1,5 +1,7 @@
 // Runs document 01's marked cases through the compiled calls, and prints what each leaves. The cases are the words of the one table that `marked` proves, and what is seen is compared
 // with what stands there.
+#![tactic(auto)]
+
 mod calls;
 mod fill;
 mod parts;

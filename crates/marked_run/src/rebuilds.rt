@@ -7,7 +7,7 @@ use crate::seen::{counted, put_answer, put_list, put_words};
 use renumber::Rebuilt;
 
 // How many words the lists have that are written.
-#[derive(Drop)]
+#[derive(Clone, Copy)]
 struct Lengths {
     rows: usize,
     inputs: usize,

@@ -1,4 +1,6 @@
 // Another graph is added to a graph. The two have row 0 in common, and the other rows of the second follow the used rows of the first.
+#![tactic(auto)]
+
 ghost use Rattle.std.specs.Prelude.{◌≡◌, ◌+◌, ◌≤◌, length};
 ghost use Rattle.rows.specs.Sizes.{max_rows};
 ghost use Rattle.graph.specs.Graph.{lent};

@@ -1,5 +1,7 @@
 // Writing a graph's words into lists that are lent for them: whether there is room, a copy, and what a call that writes a graph answers first. An output graph is lent as room alone: its
 // old words and counts are not looked at.
+#![tactic(auto)]
+
 ghost use Rattle.std.specs.Prelude.{◌≡◌};
 ghost use Rattle.graph.specs.Graph.{lent};
 ghost use Rattle.graph.specs.Check.{check_seen};

@@ -18,7 +18,7 @@ use renumber::Rebuilt;
 use rows::kinds::NONE;
 
 // How many rows are used and how many constraints there are.
-#[derive(Drop)]
+#[derive(Clone, Copy)]
 pub struct Gated {
     pub used: usize,
     pub count: usize,

@@ -1,4 +1,6 @@
 // Calls that change a graph's property: its bads, its constraints and its latches' inits.
+#![tactic(auto)]
+
 mod compress;
 mod gate_init;
 

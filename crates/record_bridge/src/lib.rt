@@ -1,5 +1,7 @@
 // Calls through records for callers that hold flat words: the latches stand in tables of records while the call runs, and whoever calls these needs no proof by hand.
 // Each graph lends exactly a table of latches, used or not; else the answer is 1.
+#![tactic(auto)]
+
 ghost use Rattle.std.specs.Prelude.{◌≡◌};
 ghost use Rattle.graph.specs.Check.{check_seen};
 ghost use Rattle.graph.specs.Graph.{lent};

@@ -1,4 +1,6 @@
 // Unrolling for callers whose latches are records; and, for `record_bridge`, the same on words that are read into records.
+#![tactic(auto)]
+
 ghost use Rattle.std.specs.Prelude.{◌≡◌, ◌*◌, length};
 ghost use Rattle.graph.specs.Graph.{lent};
 ghost use Rattle.graph.specs.Latches.{latch_words};

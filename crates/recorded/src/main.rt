@@ -1,5 +1,7 @@
 // Graphs with latches, through tables of latch records and, beside it, flat: each is checked, three frames are added, and a next is written. After each
 // frame the nexts are read back and printed, and the answers, counts, rows, inputs and latches of both are compared.
+#![tactic(auto)]
+
 mod checks;
 mod entries;
 mod graphs;
@@ -12,7 +14,7 @@ use graph::latch::{LATCH_WORDS, latch_at};
 use libc::STDOUT_FILENO;
 
 // The counts that both ways came to.
-#[derive(Drop)]
+#[derive(Clone, Copy)]
 struct Both {
     counts: Counts,
     flat: Counts,

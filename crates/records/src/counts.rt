@@ -9,7 +9,7 @@ use edge::Answer;
 use graph::Counts;
 
 // The leaf that was made or listed. On a refusal the id is 0.
-#[derive(Drop)]
+#[derive(Clone, Copy)]
 pub struct Listed {
     pub answer: Answer,
     pub id: u32,

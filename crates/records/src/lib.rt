@@ -1,4 +1,6 @@
 // The same graphs for callers that hold records: the counts lent in place, and a latch table of records.
+#![tactic(auto)]
+
 pub mod by_lending;
 mod checking;
 mod counts;

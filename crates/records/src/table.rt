@@ -6,7 +6,7 @@ use edge::Answer;
 use graph::latch::Latch;
 
 // A latch that was read; on a refusal its words are 0.
-#[derive(Drop)]
+#[derive(Clone, Copy)]
 pub struct Found {
     pub answer: Answer,
     pub latch: Latch,

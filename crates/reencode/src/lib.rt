@@ -1,4 +1,6 @@
 // A graph written anew: inputs first, then latches, then gates in row order.
+#![tactic(auto)]
+
 mod gate_rows;
 mod leaves;
 

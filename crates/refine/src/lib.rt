@@ -1,4 +1,6 @@
 // A graph without the rows that its roots do not reach: they and all below, across latches, are written in order into another graph.
+#![tactic(auto)]
+
 ghost use Rattle.std.specs.Prelude.{◌≡◌};
 ghost use Rattle.graph.specs.Graph.{lent};
 ghost use Rattle.refine.specs.Steps.{WriteReady};

@@ -1,4 +1,6 @@
 // Writing the lists of a graph anew, every edge and id by a map from old row numbers to new ones.
+#![tactic(auto)]
+
 ghost use Rattle.std.specs.Prelude.{◌≡◌, ◌+◌, ◌*◌, ◌<◌, ◌^◌};
 ghost use Rattle.output.specs.Writing.{written};
 ghost use Rattle.renumber.specs.Renumber.{renamed as renamedBy, renamed_latch, edges_of, ids_of, ends_of, latches_written, lists, renumber, by};
@@ -10,7 +12,7 @@ use graph::latch::{Latch, latch_at, with_edges, write_latch};
 use rows::kinds::NONE;
 
 // What a rebuilding call answers, with the counts of the graph that it wrote. On a refusal the counts are as given, but where the copy of `unroll_to` does not fit all are 0.
-#[derive(Drop)]
+#[derive(Clone, Copy)]
 pub struct Rebuilt {
     pub answer: Answer,
     pub counts: Counts,

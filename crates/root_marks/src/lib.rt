@@ -1,4 +1,6 @@
 // What a call on a whole graph starts from: a list of edges given as an argument, or the graph's own roots.
+#![tactic(auto)]
+
 ghost use Rattle.std.specs.Prelude.{◌≡◌, true, ◌*◌, ◌≤◌, length, take};
 ghost use Rattle.graph.specs.Leaves.{used_edge};
 ghost use Rattle.graph.specs.Latches.{latch_words};

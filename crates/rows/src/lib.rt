@@ -1,4 +1,6 @@
 // Rows: what is one, and reading one. A row is two words: row 0 is the false row, and each later row is a leaf or a gate.
+#![tactic(auto)]
+
 pub mod kinds;
 mod reading;
 pub mod sizes;

@@ -69,7 +69,7 @@ fn gate_read(rows: &[u32], used: usize, id: u32) -> Answer
 }
 
 // The answer, and both fanins of a gate: 0 where it is refused.
-#[derive(Drop)]
+#[derive(Clone, Copy)]
 pub struct Fanins {
     pub answer: Answer,
     pub first: u32,

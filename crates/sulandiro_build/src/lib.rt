@@ -1,4 +1,6 @@
 // The constructors, for callers in C. `told` takes the number and the place of the answer, then the nine counts, then the edge or the id that was made.
+#![tactic(auto)]
+
 ghost use Rattle.std.specs.Prelude.{◌≡◌, true, false, []};
 ghost use Rattle.edge.specs.Answers.{told as answerTold};
 ghost use Rattle.build_leaves.specs.Leaves.{new_call, leaf_call, new_input_call, add_input_call};

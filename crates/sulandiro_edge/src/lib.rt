@@ -1,4 +1,6 @@
 // Edges and single rows, for callers in C. Where a call can refuse, `told` takes the number and the place of the answer, then what comes with it.
+#![tactic(auto)]
+
 ghost use Rattle.std.specs.Prelude.{◌≡◌, cond, eqb};
 ghost use Rattle.edge.specs.Edges.{id_of, is_complemented, complement, complement_if, constant_of, which_constant, bool_seen, to_constant_call, edge_seen, new_call, map_call};
 ghost use Rattle.rows.specs.Reading.{is_and_call, is_leaf_call, fanin0_call, fanin1_call, fanin_seen, fanin_call};

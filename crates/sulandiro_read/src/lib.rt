@@ -1,4 +1,6 @@
 // The calls that read a graph, for callers in C. `told` takes the number and the place of the answer, then what comes with it.
+#![tactic(auto)]
+
 ghost use Rattle.std.specs.Prelude.{◌≡◌, [], ◌∷◌};
 ghost use Rattle.graph.specs.Graph.{lent};
 ghost use Rattle.graph.specs.Check.{check_call};

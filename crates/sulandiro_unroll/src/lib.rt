@@ -1,4 +1,6 @@
 // The calls that unroll a graph. `told` takes the number and the place of the answer, then the nine counts.
+#![tactic(auto)]
+
 ghost use Rattle.std.specs.Prelude.{◌≡◌};
 ghost use Rattle.graph.specs.Graph.{lent};
 ghost use Rattle.unroll.specs.Unroll.{unroll_call};

@@ -1,4 +1,6 @@
 // Numbers that pass between a caller and the library in slices of words: counts, and what a call answers.
+#![tactic(auto)]
+
 ghost use Rattle.std.specs.Prelude.{◌≡◌, [], ◌∷◌, get_or, set};
 ghost use Rattle.std.proofs.lemmas.List.Edits.{sets};
 ghost use Rattle.edge.specs.Answers.{told as told_of};

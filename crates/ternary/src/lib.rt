@@ -1,4 +1,6 @@
 // Three-valued simulation of a graph: the codes of all rows, the step, and the value of an edge.
+#![tactic(auto)]
+
 ghost use Rattle.std.specs.Prelude.{◌≡◌};
 ghost use Rattle.graph.specs.Graph.{lent};
 ghost use Rattle.ternary.specs.Calls.{arguments_right, run_seen, run_call, step_seen, step_call, value_seen, value_call};
@@ -106,7 +108,7 @@ pub fn simulate(
 }
 
 // An answer, and the code that comes with it: 0 where it is refused.
-#[derive(Drop)]
+#[derive(Clone, Copy)]
 pub struct ValueAnswer {
     pub answer: Answer,
     pub value: u8,

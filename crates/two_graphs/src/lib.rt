@@ -1,4 +1,6 @@
 // The check of two graphs, with marks for the larger of them, that every call on two begins with.
+#![tactic(auto)]
+
 ghost use Rattle.std.specs.Prelude.{◌≡◌};
 ghost use Rattle.graph.specs.Graph.{lent};
 ghost use Rattle.graph.specs.Check.{check_seen};

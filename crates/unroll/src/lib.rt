@@ -1,4 +1,6 @@
 // One frame more: the rows of a graph are built once more behind the target's, with the target's nexts in place of the latch inputs.
+#![tactic(auto)]
+
 ghost use Rattle.std.specs.Prelude.{◌≡◌, ◌*◌, ◌≤◌, length, cond};
 ghost use Rattle.edge.specs.Answers.{told, done, no_room};
 ghost use Rattle.rows.specs.Sizes.{max_rows};

@@ -1,4 +1,6 @@
 // A copy of a graph, unrolled by a number of frames.
+#![tactic(auto)]
+
 ghost use Rattle.std.specs.Prelude.{◌≡◌};
 ghost use Rattle.edge.specs.Answers.{told};
 ghost use Rattle.graph.specs.Graph.{lent};
@@ -19,7 +21,7 @@ use renumber::Rebuilt;
 const MAX_FRAMES: usize = 4096;
 
 // What `unroll_to` answers, with the number of finished frames and the counts of the output. After 1 to 4 the counts are as given, and where the copy itself does not fit they are 0.
-#[derive(Drop)]
+#[derive(Clone, Copy)]
 pub struct Unrolled {
     pub answer: Answer,
     pub finished: usize,
@@ -27,7 +29,7 @@ pub struct Unrolled {
 }
 
 // How many frames are finished, and the counts of the target with them.
-#[derive(Drop)]
+#[derive(Clone, Copy)]
 struct Finished {
     finished: usize,
     counts: Counts,
