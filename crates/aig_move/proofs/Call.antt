@@ -78,24 +78,24 @@ module _ (g : Lent) (room : Counts) (marks : List ℕ) (a : Answer) {after : Lis
     pub to_make : MakeReady g.constraints g.bads g.outputs g.counts
     to_make = make_ready g (length marks) (asked_accepted true g room marks number).sized
 
-    pub few-latches : g.counts.latches ≤ max_entries
-    few-latches = let s = (asked_accepted true g room marks number).sized.latches in omega (arith, s.within, s.limited)
+    pub few_latches : g.counts.latches ≤ max_entries
+    few_latches = let s = (asked_accepted true g room marks number).sized.latches in omega (arith, s.within, s.limited)
 
     -- so many rows are counted, and `fits` says whether the result fits
     module _ {used : ℕ} (p : used ≡ (making g []).used) {need : Counts} (q : need ≡ counts_with g.counts used) {fits : Bool} (e : fits ≡ fits_in room need) where
-      need-is : need ≡ moved_counts g
-      need-is = q ∙ ap (counts_with g.counts) p
+      need_is : need ≡ moved_counts g
+      need_is = q ∙ ap (counts_with g.counts) p
 
-      room-is : fits ≡ fits_in room (moved_counts g)
-      room-is = e ∙ ap (fits_in room) need-is
+      room_is : fits ≡ fits_in room (moved_counts g)
+      room_is = e ∙ ap (fits_in room) need_is
 
       pub no_room_lem : not fits ≡ true → record { given = told NoRoom; counts = g.counts; marks = after } ≡ move_checked g room marks
       unfolding move_checked
-      no_room_lem f = rw (answer_goes g room marks number, sym room-is ∙ not-true fits f, kept)
+      no_room_lem f = rw (answer_goes g room marks number, sym room_is ∙ not-true fits f, kept)
 
       pub all_found : not fits ≡ false → record { given = told a; counts = need; marks = after } ≡ move_checked g room marks
       unfolding move_checked
-      all_found f = rw (answer_goes g room marks number, sym room-is ∙ not-false fits f, given, asked_done true g room marks number, need-is, kept)
+      all_found f = rw (answer_goes g room marks number, sym room_is ∙ not-false fits f, given, asked_done true g room marks number, need_is, kept)
 
 -- ---- the call: r is what the check found, `after` are the marks, and d says whether the answer is done
 module _ (g out : Lent) (marks : List ℕ) (r : Rebuilt) {after : List ℕ} (seen : found_seen r after ≡ move_checked g (room_in out) marks) {d : Bool} (test : d ≡ eqb (told r.answer).number 0) where
@@ -111,25 +111,25 @@ module _ (g out : Lent) (marks : List ℕ) (r : Rebuilt) {after : List ℕ} (see
   is_done = test ∙ ap (λ (t : Given). eqb t.number 0) answer_is
 
   module _ (h : d ≡ false) where
-    pub counts-stay : r.counts ≡ g.counts
+    pub counts_stay : r.counts ≡ g.counts
     unfolding move_checked
-    counts-stay = ap (λ (s : FoundSeen). s.counts) seen ∙ rw (sym is_done ∙ h)
+    counts_stay = ap (λ (s : FoundSeen). s.counts) seen ∙ rw (sym is_done ∙ h)
 
-    pub move-refused : record { given = told r.answer; graph = out; marks = after } ≡ move_call g out marks
+    pub move_refused : record { given = told r.answer; graph = out; marks = after } ≡ move_call g out marks
     unfolding move_call
-    move-refused = rw (sym is_done ∙ h, answer_is, marks_are)
+    move_refused = rw (sym is_done ∙ h, answer_is, marks_are)
 
   module _ (h : d ≡ true) where
     right : MoveLent g out marks
     right = all_right g out marks (eqb-true _ _ (sym is_done ∙ h))
 
-    pub counts-found : r.counts ≡ moved_counts g
+    pub counts_found : r.counts ≡ moved_counts g
     unfolding move_checked
-    counts-found = ap (λ (s : FoundSeen). s.counts) seen ∙ rw (sym is_done ∙ h)
+    counts_found = ap (λ (s : FoundSeen). s.counts) seen ∙ rw (sym is_done ∙ h)
 
-    pub ready-to-write : MoveReady g out
-    ready-to-write = record { marked = length marks; sized = right.sized; room = right.room }
+    pub ready_to_write : MoveReady g out
+    ready_to_write = record { marked = length marks; sized = right.sized; room = right.room }
 
-    pub move-done : {new : Lent} → new ≡ moved g out → record { given = told r.answer; graph = new; marks = after } ≡ move_call g out marks
+    pub move_done : {new : Lent} → new ≡ moved g out → record { given = told r.answer; graph = new; marks = after } ≡ move_call g out marks
     unfolding move_call
-    move-done a = rw (sym is_done ∙ h, answer_is, a, marks_are)
+    move_done a = rw (sym is_done ∙ h, answer_is, a, marks_are)

@@ -79,9 +79,9 @@ module _ (g out : Lent) (r : MoveReady g out) {n : Counts} (e : n ≡ copy_count
   -- c is the copy
   module _ {x1 x2 x3 x4 x5 x6 x7 x8 x9 : List ℕ} (copy : lent x1 x2 x3 x4 x5 x6 x7 x8 x9 n ≡ copy_of n (with g n) (with out n)) (k3 : length x3 ≡ length out.latches)
       (k5 : length x5 ≡ length out.bads) (k6 : length x6 ≡ length out.outputs) where
-    pub finish-ready : FinishReady g.constraints g.bads g.outputs x3 x5 x6 g.counts
+    pub finish_ready : FinishReady g.constraints g.bads g.outputs x3 x5 x6 g.counts
     unfolding counts_with
-    finish-ready =
+    finish_ready =
         record {
           make = make_ready g r.marked r.sized;
           latch = omega (arith, k3, r.room.latches);

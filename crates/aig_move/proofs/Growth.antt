@@ -186,23 +186,23 @@ module _ (rows : List ℕ) (used : ℕ) (some : 0 < used) (limit : rows_lent row
         and_value s₁.rows s₁.used (2 * used) s₁.edge some₁ latch_used g₁.edge leaf lent₂
         ∙ ap₂ ◌&&◌ latch_value all_value
 
-    next-still : edge_value (value s₄.rows leaf) s₂.edge ≡ edge_value (value s₂.rows leaf) s₂.edge
-    next-still = grows_edge s₂.rows s₂.used s₄ g₃₄ leaf s₂.edge next_grows.edge
+    next_still : edge_value (value s₄.rows leaf) s₂.edge ≡ edge_value (value s₂.rows leaf) s₂.edge
+    next_still = grows_edge s₂.rows s₂.used s₄ g₃₄ leaf s₂.edge next_grows.edge
 
     -- "next = latch AND all constraints"
-    pub next-value : edge_value (value m.rows leaf) m.next ≡ leaf used && all_true v constraints
+    pub next_value : edge_value (value m.rows leaf) m.next ≡ leaf used && all_true v constraints
     unfolding making_of
-    next-value = next-still ∙ next_here
+    next_value = next_still ∙ next_here
 
-    pub bad-value : 0 < length bads → edge_value (value m.rows leaf) m.bad ≡ edge_value (value m.rows leaf) m.next && v (get_or bads 0 0)
+    pub bad_value : 0 < length bads → edge_value (value m.rows leaf) m.bad ≡ edge_value (value m.rows leaf) m.next && v (get_or bads 0 0)
     unfolding making_of
-    bad-value l =
+    bad_value l =
         grows_edge s₃.rows s₃.used s₄ g₄ leaf s₃.edge g₃.edge
         ∙ (guard_value s₂.rows s₂.used s₂.edge some₂ next_grows.edge leaf bads l bads₂ lent₃
-        ∙ ap₂ ◌&&◌ (sym next-still) (grows_edge rows used s₂ next_grows leaf (get_or bads 0 0) (bs 0 l)))
+        ∙ ap₂ ◌&&◌ (sym next_still) (grows_edge rows used s₂ next_grows leaf (get_or bads 0 0) (bs 0 l)))
 
-    pub output-value : 0 < length outputs → edge_value (value m.rows leaf) m.output ≡ edge_value (value m.rows leaf) m.next && v (get_or outputs 0 0)
+    pub output_value : 0 < length outputs → edge_value (value m.rows leaf) m.output ≡ edge_value (value m.rows leaf) m.next && v (get_or outputs 0 0)
     unfolding making_of
-    output-value l =
+    output_value l =
         guard_value s₃.rows s₃.used s₂.edge some₃ next₃ leaf outputs l outputs₃ lent₄
         ∙ ap₂ ◌&&◌ (sym (grows_edge s₃.rows s₃.used s₄ g₄ leaf s₂.edge next₃)) (grows_edge rows used s₃ bad_grows leaf (get_or outputs 0 0) (os 0 l))

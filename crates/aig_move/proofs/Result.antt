@@ -28,7 +28,7 @@ use Rattle.gates.specs.Meaning.{AllUsed, Grows, all_true}
 use Rattle.build_leaves.specs.Graphs.{with_rows}
 use Rattle.gates.proofs.Meaning.{grows_value}
 use Rattle.build_leaves.proofs.Graphs.{rows_stay, listed_used}
-use Rattle.build_latches.proofs.Graphs.{latch-stays}
+use Rattle.build_latches.proofs.Graphs.{latch_stays}
 use Rattle.output.specs.Room.{Limited, Room}
 use Rattle.graph.proofs.Latches.{latch_set_length, latch_kept, latch_set_at}
 use Rattle.output.specs.Copying.{copy_of}
@@ -40,7 +40,7 @@ use Rattle.aig_move.specs.Moving.{making, copy_counts, counts_with, moved_counts
 use Rattle.aig_move.specs.Meaning.{NewLatch, FirstGuarded, Moved}
 use Rattle.aig_move.proofs.Steps.{used_like}
 use Rattle.aig_move.proofs.Copied.{copy_room}
-use Rattle.aig_move.proofs.Growth.{all_same, making_grows, new_used, leaf_made, leaf_within, next-value, bad-value, output-value}
+use Rattle.aig_move.proofs.Growth.{all_same, making_grows, new_used, leaf_made, leaf_within, next_value, bad_value, output_value}
 
 -- ---- the first of n entries
 module _ (list : List ℕ) (n e : ℕ) where
@@ -157,7 +157,7 @@ module _ (g out : Lent) (marks : ℕ) (s : Sized g marks) (w : WellFormed g) (r 
 
   next_means : (leaf : ℕ → Bool) → edge_value (value m.rows leaf) m.next ≡ leaf n.rows && all_true (edge_value (value g.rows leaf)) cs
   next_means leaf =
-      next-value c.rows n.rows s.rows.some limit cs bs os us ub uo room leaf
+      next_value c.rows n.rows s.rows.some limit cs bs os us ub uo room leaf
       ∙ ap (λ (x : Bool). leaf n.rows && x) (all_same (edge_value (value c.rows leaf)) (edge_value (value g.rows leaf)) n.rows (copy_edge leaf) cs us)
 
   new_latch_lem : NewLatch g (moved g out)
@@ -190,14 +190,14 @@ module _ (g out : Lent) (marks : ℕ) (s : Sized g marks) (w : WellFormed g) (r 
   bad_means : 0 < n.bads → (leaf : ℕ → Bool) → edge_value (value m.rows leaf) m.bad ≡ edge_value (value m.rows leaf) m.next && edge_value (value g.rows leaf) (get_or g.bads 0 0)
   bad_means p leaf =
       let f = front g.bads n.bads p s.bads.within in
-      bad-value c.rows n.rows s.rows.some limit cs bs os us ub uo room leaf f.0
+      bad_value c.rows n.rows s.rows.some limit cs bs os us ub uo room leaf f.0
       ∙ ap (λ (x : Bool). edge_value (value m.rows leaf) m.next && x) (ap (edge_value (value c.rows leaf)) f.1 ∙ copy_edge leaf (get_or g.bads 0 0) (w.bads 0 p))
 
   output_means : 0 < n.outputs → (leaf : ℕ → Bool)
       → edge_value (value m.rows leaf) m.output ≡ edge_value (value m.rows leaf) m.next && edge_value (value g.rows leaf) (get_or g.outputs 0 0)
   output_means p leaf =
       let f = front g.outputs n.outputs p s.outputs.within in
-      output-value c.rows n.rows s.rows.some limit cs bs os us ub uo room leaf f.0
+      output_value c.rows n.rows s.rows.some limit cs bs os us ub uo room leaf f.0
       ∙ ap (λ (x : Bool). edge_value (value m.rows leaf) m.next && x) (ap (edge_value (value c.rows leaf)) f.1 ∙ copy_edge leaf (get_or g.outputs 0 0) (w.outputs 0 p))
 
   bads_long : n.bads ≤ length c.bads
@@ -245,7 +245,7 @@ module _ (g out : Lent) (marks : ℕ) (s : Sized g marks) (w : WellFormed g) (r 
   formed₂ : WellFormed longer
   unfolding counted copy_of counts_with
   formed₂ =
-      latch-stays taller formed₁ n.rows
+      latch_stays taller formed₁ n.rows
       (leaf_within c.rows n.rows s.rows.some limit cs bs os us ub uo room, leaf_made c.rows n.rows s.rows.some limit cs bs os us ub uo room)
       unlisted m.next (constant_of true) latch_long edges_used
 

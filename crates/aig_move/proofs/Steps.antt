@@ -96,8 +96,8 @@ module _ (rows : List ℕ) (used : ℕ) (constraints bads outputs : List ℕ) (n
   next_most = rw p (omega (arith, (next_sized rows used constraints).most))
 
   module _ (b : State) (q : b ≡ guard_of n.rows n.used n.edge bads) where
-    pub bad-most : b.used ≤ used + length constraints + 3
-    bad-most = rw q (omega (arith, (guard_sized n.rows n.used n.edge bads).most, next_most))
+    pub bad_most : b.used ≤ used + length constraints + 3
+    bad_most = rw q (omega (arith, (guard_sized n.rows n.used n.edge bads).most, next_most))
 
     pub all_made : (o : State) → o ≡ guard_of b.rows b.used n.edge outputs
         → record { rows = o.rows; used = o.used; next = n.edge; bad = b.edge; output = o.edge } ≡ making_of rows used constraints bads outputs

@@ -22,7 +22,7 @@ use Rattle.graph.specs.WellFormed.{UsedLeaf, listed, WellFormed}
 use Rattle.graph.proofs.Latches.{latch_kept, latch_set_at, same_inputs}
 use Rattle.build_leaves.specs.Calls.{counted, left, call_of}
 use Rattle.build_leaves.specs.Leaves.{free_row}
-use Rattle.build_leaves.proofs.Graphs.{NotIn, once_insert, not_in, taller-by-leaf, leaf-stays, new_leaf_lem, new-unlisted}
+use Rattle.build_leaves.proofs.Graphs.{NotIn, once_insert, not_in, taller_by_leaf, leaf_stays, new_leaf_lem, new_unlisted}
 use Rattle.build_latches.specs.Latches.{latch_answer, new_latch_call, add_latch_call}
 use Rattle.build_latches.specs.Graphs.{with_latches, LatchesStay}
 use Rattle.build_latches.proofs.Adding.{latch_fits, latch_told}
@@ -36,52 +36,52 @@ module _ (g : Lent) (w : WellFormed g) (x : ℕ) (leaf : UsedLeaf g x) (new : No
     abbrev more : List ℕ
     more = latch_set g.latches m (latch x next init)
 
-    latch-still : (i : ℕ) → i < m → latch_at more i ≡ latch_at g.latches i
-    latch-still i l = latch_kept g.latches m (latch x next init) i (λ (e : i ≡ m). omega arith)
+    latch_still : (i : ℕ) → i < m → latch_at more i ≡ latch_at g.latches i
+    latch_still i l = latch_kept g.latches m (latch x next init) i (λ (e : i ≡ m). omega arith)
 
-    latch-here : latch_at more m ≡ latch x next init
-    latch-here = latch_set_at g.latches m (latch x next init) room
+    latch_here : latch_at more m ≡ latch x next init
+    latch_here = latch_set_at g.latches m (latch x next init) room
 
-    inputs-still : latch_inputs more m ≡ latch_inputs g.latches m
-    inputs-still = same_inputs more g.latches m (λ i l. ap (λ (l : Latch). l.input) (latch-still i l))
+    inputs_still : latch_inputs more m ≡ latch_inputs g.latches m
+    inputs_still = same_inputs more g.latches m (λ i l. ap (λ (l : Latch). l.input) (latch_still i l))
 
     -- a latch of the longer list is the new one or an old one
     each : (P : Latch → Type 0) → P (latch x next init) → ((i : ℕ) → i < m → P (latch_at g.latches i)) → (i : ℕ) → i < m + 1 → P (latch_at more i)
     each P here old i l =
         ⊎_elim
-        (λ (h : i < m). subst⁻¹ P (latch-still i h) (old i h))
-        (λ (h : m ≤ i). let e : i ≡ m = omega arith in rw e (subst⁻¹ P latch-here here))
+        (λ (h : i < m). subst⁻¹ P (latch_still i h) (old i h))
+        (λ (h : m ≤ i). let e : i ≡ m = omega arith in rw e (subst⁻¹ P latch_here here))
         (lt_or_le i m)
 
     longer : latch_inputs more (m + 1) ≡ latch_inputs g.latches m ++ (x ∷ [])
     unfolding latch_inputs
-    longer = rw add-one (ap₂ (λ (k : List ℕ) (l : Latch). k ++ (l.input ∷ [])) inputs-still latch-here)
+    longer = rw add-one (ap₂ (λ (k : List ℕ) (l : Latch). k ++ (l.input ∷ [])) inputs_still latch_here)
 
     listed_more : take g.counts.inputs g.inputs ++ latch_inputs more (m + 1) ≡ listed g ++ (x ∷ [])
     listed_more =
         ap (λ (k : List ℕ). take g.counts.inputs g.inputs ++ k) longer
         ∙ sym (append_assoc (take g.counts.inputs g.inputs) (latch_inputs g.latches m) (x ∷ []))
 
-    init-is : (init ≡ none) ⊎ (id_of init < g.counts.rows)
+    init_is : (init ≡ none) ⊎ (id_of init < g.counts.rows)
     unfolding latch_edges
-    init-is =
+    init_is =
         ⊎_elim (λ (e : eqb init none ≡ true). inl (eqb-true init none e)) (λ (e : used_edge g.counts.rows init ≡ true). inr (ltb-true (id_of init) g.counts.rows e))
         (either {a = eqb init none} (both {a = used_edge g.counts.rows next} {b = eqb init none || used_edge g.counts.rows init} edges).1)
 
-    next-is : id_of next < g.counts.rows
+    next_is : id_of next < g.counts.rows
     unfolding latch_edges
-    next-is = ltb-true (id_of next) g.counts.rows (both {a = used_edge g.counts.rows next} {b = eqb init none || used_edge g.counts.rows init} edges).0
+    next_is = ltb-true (id_of next) g.counts.rows (both {a = used_edge g.counts.rows next} {b = eqb init none || used_edge g.counts.rows init} edges).0
 
-    pub latch-stays : WellFormed (with_latches g (left g.rows more (counted g.counts g.counts.rows g.counts.inputs (m + 1)) 0))
+    pub latch_stays : WellFormed (with_latches g (left g.rows more (counted g.counts g.counts.rows g.counts.inputs (m + 1)) 0))
     unfolding counted
-    latch-stays =
+    latch_stays =
         record {
           rows = w.rows;
           inputs = w.inputs;
           latches = each (λ (l : Latch). UsedLeaf g l.input) leaf w.latches;
           once = rw listed_more (once_insert x (listed g) [] (rw append-nil w.once) (rw append-nil new));
-          nexts = each (λ (l : Latch). id_of l.next < g.counts.rows) next-is w.nexts;
-          inits = each (λ (l : Latch). (l.init ≡ none) ⊎ (id_of l.init < g.counts.rows)) init-is w.inits;
+          nexts = each (λ (l : Latch). id_of l.next < g.counts.rows) next_is w.nexts;
+          inits = each (λ (l : Latch). (l.init ≡ none) ⊎ (id_of l.init < g.counts.rows)) init_is w.inits;
           constraints = w.constraints;
           bads = w.bads;
           outputs = w.outputs;
@@ -114,7 +114,7 @@ module _ (g : Lent) (long : g.counts.inputs ≤ length g.inputs) (w : WellFormed
       let h = eq-eqb (latch_answer g.rows (latches_lent g.latches) n good (free_row g.rows n.rows)).number 0 z in
       let t = latch_told g.rows n (latches_lent g.latches) good (free_row g.rows n.rows) z in
       rw h
-      (latch-stays (taller-by-leaf g long w t.0 t.2) (leaf-stays g long w t.0 t.2) n.rows (new_leaf_lem g long w t.0 t.2) (new-unlisted g long w t.0 t.2) next init
+      (latch_stays (taller_by_leaf g long w t.0 t.2) (leaf_stays g long w t.0 t.2) n.rows (new_leaf_lem g long w t.0 t.2) (new_unlisted g long w t.0 t.2) next init
       (omega (arith, (latch_fits g.rows (latches_lent g.latches) n good (free_row g.rows n.rows) h).entry)) (edges_later n.rows n.rows next init t.1))
 
   add_latch : (x next init : ℕ) → leaf_at g.rows x ≡ true → member x (listed g) ≡ false → (add_latch_call g.rows g.latches n x next init).given.number ≡ 0
@@ -126,7 +126,7 @@ module _ (g : Lent) (long : g.counts.inputs ≤ length g.inputs) (w : WellFormed
       let t = latch_told g.rows n (latches_lent g.latches) good true z in
       let u = both {a = ltb x n.rows} {b = latch_edges n.rows (latch x next init)} t.1 in
       rw h
-      (latch-stays g w x (ltb-true x n.rows u.0, leaf) (not_in x (listed g) new) next init
+      (latch_stays g w x (ltb-true x n.rows u.0, leaf) (not_in x (listed g) new) next init
       (omega (arith, (latch_fits g.rows (latches_lent g.latches) n good true h).entry)) u.1)
 
   pub latches_stay : LatchesStay g

@@ -126,27 +126,27 @@ module _ (g : Lent) (w : WellFormed g) (x : ℕ) (leaf : UsedLeaf g x) (new : No
     abbrev here : ℕ
     here = g.counts.inputs
 
-    input-is : (i : ℕ) → i < here + 1 → UsedLeaf g (get_or (set g.inputs here x) i 0)
-    input-is i l =
+    input_is : (i : ℕ) → i < here + 1 → UsedLeaf g (get_or (set g.inputs here x) i 0)
+    input_is i l =
         ⊎_elim
         (λ (h : i < here). rw (get_or-set_other g.inputs here i x 0 (λ (e : i ≡ here). omega arith)) (w.inputs i h))
         (λ (h : here ≤ i). let e : i ≡ here = omega arith in rw (e, get_or-set_same g.inputs here x 0 (omega arith)) leaf)
         (lt_or_le i here)
 
-    listed-is : take (here + 1) (set g.inputs here x) ++ latch_inputs g.latches g.counts.latches ≡ take here g.inputs ++ (x ∷ latch_inputs g.latches g.counts.latches)
-    listed-is =
+    listed_is : take (here + 1) (set g.inputs here x) ++ latch_inputs g.latches g.counts.latches ≡ take here g.inputs ++ (x ∷ latch_inputs g.latches g.counts.latches)
+    listed_is =
         let t : take (here + 1) (set g.inputs here x) ≡ take here g.inputs ++ (x ∷ []) = rw add-one (take-suc-set g.inputs here x (omega arith)) in
         ap (λ (k : List ℕ). k ++ latch_inputs g.latches g.counts.latches) t
         ∙ append_assoc (take here g.inputs) (x ∷ []) (latch_inputs g.latches g.counts.latches)
 
-    pub input-stays : WellFormed (with_inputs g (left g.rows (set g.inputs here x) (counted g.counts g.counts.rows (here + 1) g.counts.latches) 0))
+    pub input_stays : WellFormed (with_inputs g (left g.rows (set g.inputs here x) (counted g.counts g.counts.rows (here + 1) g.counts.latches) 0))
     unfolding counted
-    input-stays =
+    input_stays =
         record {
           rows = w.rows;
-          inputs = input-is;
+          inputs = input_is;
           latches = w.latches;
-          once = rw listed-is (once_insert x (take here g.inputs) (latch_inputs g.latches g.counts.latches) w.once new);
+          once = rw listed_is (once_insert x (take here g.inputs) (latch_inputs g.latches g.counts.latches) w.once new);
           nexts = w.nexts;
           inits = w.inits;
           constraints = w.constraints;
@@ -183,19 +183,19 @@ module _ (g : Lent) (long : g.counts.inputs ≤ length g.inputs) (w : WellFormed
 
   -- with one more leaf
   module _ (sizes : rows_fit n.rows g.rows ≡ true) (free : free_row g.rows n.rows ≡ true) where
-    abbrev pub taller-by-leaf : Lent
-    taller-by-leaf = with_rows g (left (leaf_added g.rows n.rows) [] (counted n (n.rows + 1) n.inputs n.latches) 0)
+    abbrev pub taller_by_leaf : Lent
+    taller_by_leaf = with_rows g (left (leaf_added g.rows n.rows) [] (counted n (n.rows + 1) n.inputs n.latches) 0)
 
-    pub leaf-stays : WellFormed taller-by-leaf
-    leaf-stays = grown_stays _ (leaf_grows g.rows n sizes free) (omega (arith, ltb-true n.rows (rows_lent g.rows) free))
+    pub leaf_stays : WellFormed taller_by_leaf
+    leaf_stays = grown_stays _ (leaf_grows g.rows n sizes free) (omega (arith, ltb-true n.rows (rows_lent g.rows) free))
 
-    pub new_leaf_lem : UsedLeaf taller-by-leaf n.rows
+    pub new_leaf_lem : UsedLeaf taller_by_leaf n.rows
     unfolding counted
     new_leaf_lem = (omega arith, (leaf_made g.rows n sizes free [] n.inputs n.latches).is_leaf)
 
-    pub new-unlisted : NotIn n.rows (listed taller-by-leaf)
+    pub new_unlisted : NotIn n.rows (listed taller_by_leaf)
     unfolding counted
-    new-unlisted j l e = let h = listed_used j l in omega arith
+    new_unlisted j l e = let h = listed_used j l in omega arith
 
   new_input : (new_input_call g.rows g.inputs n).given.number ≡ 0 → WellFormed (with_inputs g (new_input_call g.rows g.inputs n).left)
   unfolding new_input_call call_of counted
@@ -204,7 +204,7 @@ module _ (g : Lent) (long : g.counts.inputs ≤ length g.inputs) (w : WellFormed
       let h = eq-eqb a.number 0 z in
       let t = input_told g.rows n g.inputs true (free_row g.rows n.rows) z in
       rw h
-      (input-stays (taller-by-leaf t.0 t.2) (leaf-stays t.0 t.2) n.rows (new_leaf_lem t.0 t.2) (new-unlisted t.0 t.2)
+      (input_stays (taller_by_leaf t.0 t.2) (leaf_stays t.0 t.2) n.rows (new_leaf_lem t.0 t.2) (new_unlisted t.0 t.2)
       (input_fits g.rows g.inputs n true (free_row g.rows n.rows) h).entry)
 
   add_input : (x : ℕ) → leaf_at g.rows x ≡ true → member x (listed g) ≡ false → (add_input_call g.rows g.inputs n x).given.number ≡ 0
@@ -214,14 +214,14 @@ module _ (g : Lent) (long : g.counts.inputs ≤ length g.inputs) (w : WellFormed
       let h = eq-eqb (input_answer g.rows g.inputs n (ltb x n.rows) true).number 0 z in
       let t = input_told g.rows n g.inputs (ltb x n.rows) true z in
       rw h
-      (input-stays g w x (ltb-true x n.rows t.1, leaf) (not_in x (listed g) new)
+      (input_stays g w x (ltb-true x n.rows t.1, leaf) (not_in x (listed g) new)
       (input_fits g.rows g.inputs n (ltb x n.rows) true h).entry)
 
   leaf_call_lem : (leaf_call g.rows n).given.number ≡ 0 → WellFormed (with_rows g (leaf_call g.rows n).left)
   unfolding leaf_call call_of
   leaf_call_lem z =
       let t = leaf_told g.rows n z in
-      rw (eq-eqb (leaf_answer g.rows n.rows).number 0 z) (leaf-stays t.0 t.1)
+      rw (eq-eqb (leaf_answer g.rows n.rows).number 0 z) (leaf_stays t.0 t.1)
 
   pub leaves_stay : LeavesStay g
   leaves_stay = record { leaf = leaf_call_lem; new_input = new_input; add_input = add_input }

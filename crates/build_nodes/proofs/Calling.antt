@@ -41,8 +41,8 @@ module _ (rows : List ℕ) (counts : Counts) (es : List ℕ) where
   asked = gate_asked rows counts.rows es
 
   module _ {t : Given} {d : Bool} (p : t ≡ asked) (e : d ≡ eqb t.number 0) where
-    pub asked-fits : not d ≡ false → (counts.rows ≤ max_rows) × (length es ≤ max_entries)
-    asked-fits h =
+    pub asked_fits : not d ≡ false → (counts.rows ≤ max_rows) × (length es ≤ max_entries)
+    asked_fits h =
         let t = both {a = rows_fit counts.rows rows} {b = leb (length es) max_entries} (all_three _ _ _ (test_done p e h)).0 in
         let r = rows_fit_lem counts.rows rows t.0 in
         (omega (arith, r.fit.within, r.fit.limited), leb-true (length es) max_entries t.1)
@@ -51,9 +51,9 @@ module _ (rows : List ℕ) (counts : Counts) (es : List ℕ) where
     abbrev room : Bool
     room = leb (of rows).used (rows_lent rows)
 
-    pub gate-refused : not d ≡ true → seen t (left rows [] counts 0) ≡ gate_call rows counts es (of rows)
+    pub gate_refused : not d ≡ true → seen t (left rows [] counts 0) ≡ gate_call rows counts es (of rows)
     unfolding gate_call
-    gate-refused h =
+    gate_refused h =
         let n = test_refused p e h in
         let q = asked_first (gate_sizes rows counts.rows es) (all_used counts.rows es) room n in
         call_refused rows [] counts _ (p ∙ q) (ap (λ (g : Given). eqb g.number 0) (sym q) ∙ n)
@@ -73,17 +73,17 @@ module _ (rows : List ℕ) (counts : Counts) (es : List ℕ) where
       answer : constructor_answer (gate_sizes rows counts.rows es) (all_used counts.rows es) room ≡ cond room done no_room
       answer = asked_last (gate_sizes rows counts.rows es) (all_used counts.rows es) room (test_done p e h)
 
-      pub gate-full : length (last ++ rows) / 2 < u → seen no_room (left (last ++ rows) [] counts 0) ≡ gate_call rows counts es (of rows)
+      pub gate_full : length (last ++ rows) / 2 < u → seen no_room (left (last ++ rows) [] counts 0) ≡ gate_call rows counts es (of rows)
       unfolding gate_call
-      gate-full l =
+      gate_full l =
           let m : rows_lent rows < (of rows).used = rw (same_rows, need) at l in
           let q = answer ∙ ap (λ (b : Bool). cond b done no_room) (lt-leb (of rows).used (rows_lent rows) m) in
           rw same_rows (call_refused rows [] counts _ (sym q) (ap (λ (g : Given). eqb g.number 0) q))
 
-      pub gate-done : u ≤ length (last ++ rows) / 2 → (s : State) → s ≡ of (last ++ rows)
+      pub gate_done : u ≤ length (last ++ rows) / 2 → (s : State) → s ≡ of (last ++ rows)
           → seen done (left s.rows [] (counted counts s.used counts.inputs counts.latches) s.edge) ≡ gate_call rows counts es (of rows)
       unfolding gate_call
-      gate-done l s q =
+      gate_done l s q =
           let m : (of rows).used ≤ rows_lent rows = rw (same_rows, need) at l in
           let g = answer ∙ ap (λ (b : Bool). cond b done no_room) (le-leb (of rows).used (rows_lent rows) m) in
           let w : s ≡ of rows = q ∙ ap of same_rows in

@@ -96,11 +96,11 @@ module _ (rows : List ℕ) (n : Counts) where
 
   two_or : (a b : ℕ) (v : ℕ → Bool) → list_true true (edge_value v) (a ∷ (b ∷ [])) ≡ edge_value v a || edge_value v b
   unfolding any_true
-  two_or a b v = ap (λ (x : Bool). edge_value v a || x) (or-false (edge_value v b))
+  two_or a b v = ap (λ (x : Bool). edge_value v a || x) (or_false (edge_value v b))
     where
-      or-false : (x : Bool) → x || false ≡ x
-      or-false true = refl
-      or-false false = refl
+      or_false : (x : Bool) → x || false ≡ x
+      or_false true = refl
+      or_false false = refl
 
   pub nodes : Nodes rows n
   nodes =

@@ -104,21 +104,21 @@ module _ (g : Lent) (shortcuts : Bool) (clauses marks : List ℕ) (a : Answer) {
     abbrev used : ℕ
     used = g.counts.rows
 
-    after-cleared : after ≡ cleared used marks
-    after-cleared = kept ∙ (exact g marks).clear (λ (o : (check_call g marks).given.number ≡ 1). absurd (omega (arith, zero_number)))
+    after_cleared : after ≡ cleared used marks
+    after_cleared = kept ∙ (exact g marks).clear (λ (o : (check_call g marks).given.number ≡ 1). absurd (omega (arith, zero_number)))
 
     part_zero : take used after ≡ replicate used 0
-    part_zero = rw after-cleared (take_at (replicate used 0) (drop used marks) used (length-replicate used 0))
+    part_zero = rw after_cleared (take_at (replicate used 0) (drop used marks) used (length-replicate used 0))
 
     -- the marks of the used rows are lent on as a part
     pub part_long : length (take used after) ≡ used
     part_long = ap length part_zero ∙ length-replicate used 0
 
     pub marks_long : used ≤ length after
-    marks_long = rw after-cleared (rw (length-append (replicate used 0) (drop used marks), length-replicate {A = ℕ} used 0) (omega arith))
+    marks_long = rw after_cleared (rw (length-append (replicate used 0) (drop used marks), length-replicate {A = ℕ} used 0) (omega arith))
 
-    pub roots-fit : RootsFit g.latches g.constraints g.bads g.outputs g.edges g.fairness g.counts
-    roots-fit = (roots_known g (length marks) right.0 right.1).fit
+    pub roots_fit : RootsFit g.latches g.constraints g.bads g.outputs g.edges g.fairness g.counts
+    roots_fit = (roots_known g (length marks) right.0 right.1).fit
 
     pub ready : ClausesReady g.rows (length (take used after)) (roots_of g) (take used after)
     ready =
@@ -143,11 +143,11 @@ module _ (g : Lent) (shortcuts : Bool) (clauses marks : List ℕ) (a : Answer) {
       pub again_part : length (take used again) ≡ used
       again_part = rw put_back part_long
 
-      pub again-long : used ≤ length again
-      again-long = rw put_back marks_long
+      pub again_long : used ≤ length again
+      again_long = rw put_back marks_long
 
-      pub again-ready : ClausesReady g.rows (length (take used again)) (roots_of g) (take used again)
-      again-ready = rw put_back ready
+      pub again_ready : ClausesReady g.rows (length (take used again)) (roots_of g) (take used again)
+      again_ready = rw put_back ready
 
       abbrev ws : List ℕ
       ws = words (cnf_of shortcuts g)
@@ -158,18 +158,18 @@ module _ (g : Lent) (shortcuts : Bool) (clauses marks : List ℕ) (a : Answer) {
 
       -- f says whether there is room
       module _ {f : Bool} (asked : f ≡ leb (length (words (clauses_in shortcuts g.rows (length (take used after)) (roots_of g)))) (length clauses)) where
-        fits-is : leb (length ws) (length clauses) ≡ f
-        fits-is = sym (rw part_long at asked)
+        fits_is : leb (length ws) (length clauses) ≡ f
+        fits_is = sym (rw part_long at asked)
 
-        pub cnf-short : not f ≡ true → cnf_seen (record { answer = NoRoom; words = 0 }) clauses again ≡ cnf_call g shortcuts clauses marks
+        pub cnf_short : not f ≡ true → cnf_seen (record { answer = NoRoom; words = 0 }) clauses again ≡ cnf_call g shortcuts clauses marks
         unfolding cnf_call
-        cnf-short l = rw (put_back, answer_is, fits-is, not-true f l, kept)
+        cnf_short l = rw (put_back, answer_is, fits_is, not-true f l, kept)
 
-        pub cnf-done : not f ≡ false → {n : ℕ} {part' out : List ℕ} → n ≡ length (words (clauses_in shortcuts g.rows (length (take used again)) (roots_of g)))
+        pub cnf_done : not f ≡ false → {n : ℕ} {part' out : List ℕ} → n ≡ length (words (clauses_in shortcuts g.rows (length (take used again)) (roots_of g)))
             → part' ≡ take used again → WrittenIfRoom clauses 0 (words (clauses_in shortcuts g.rows (length (take used again)) (roots_of g))) out
             → cnf_seen (record { answer = Done; words = n }) out (part' ++ drop used again) ≡ cnf_call g shortcuts clauses marks
         unfolding cnf_call
-        cnf-done l e p w =
-            let room : length ws ≤ length clauses = leb-true (length ws) (length clauses) (fits-is ∙ not-false f l) in
+        cnf_done l e p w =
+            let room : length ws ≤ length clauses = leb-true (length ws) (length clauses) (fits_is ∙ not-false f l) in
             let all : WrittenIfRoom clauses 0 ws _ = rw again_part at w in
-            rw (answer_is, fits-is, not-false f l, all (omega (arith, room)), sets_over clauses ws room, e, again_part, p, take-append-drop used again, put_back, kept)
+            rw (answer_is, fits_is, not-false f l, all (omega (arith, room)), sets_over clauses ws room, e, again_part, p, take-append-drop used again, put_back, kept)

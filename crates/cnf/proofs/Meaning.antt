@@ -35,11 +35,11 @@ check_not_5 g marks e = omega (arith, ap (λ (t : Given). t.number) ((exact g ma
     unsized : Sized g (length marks) → ⊥
     unsized s = omega (arith, (exact g marks).refuses_row s no_rows)
       where
-        not-well : WellFormed g → ⊥
-        not-well w = omega (arith, ap (λ (t : Given). t.number) ((exact g marks).accepts s w))
+        not_well : WellFormed g → ⊥
+        not_well w = omega (arith, ap (λ (t : Given). t.number) ((exact g marks).accepts s w))
 
         no_rows : AllRows g.rows g.counts.rows → ⊥
-        no_rows r = omega (arith, (exact g marks).refuses_entry s r not-well)
+        no_rows r = omega (arith, (exact g marks).refuses_entry s r not_well)
 
 module _ (g : Lent) (shortcuts : Bool) (clauses marks : List ℕ) where
   abbrev ws : List ℕ

@@ -3,7 +3,7 @@
 use Prim.Native.Nat.{ℕ, zero, suc, ◌*◌, ◌≤◌, ◌<◌}
 use native.Mathlib.Omega.{arith}
 use native.Mathlib.Nat.{eq-or-lt_of_le}
-use mathlib.Core.Bool.{Bool, true, false, not, ◌&&◌, ◌||◌, and_assoc, or-false}
+use mathlib.Core.Bool.{Bool, true, false, not, ◌&&◌, ◌||◌, and_assoc, or_false}
 use mathlib.Core.Path.{◌≡◌, refl, sym, ◌∙◌}
 use mathlib.Core.Logic.{◌⊎◌, inl, inr, ⊎_elim}
 use mathlib.Core.List.{List, [], ◌∷◌, ◌++◌}
@@ -76,7 +76,7 @@ module _ (shortcuts : Bool) (rows : List ℕ) (used : ℕ) (good : AllRows rows 
   other_right : (i : ℕ) → i < used → gate_at rows i ≡ false → Right i
   unfolding is_row is_false_row
   other_right i l h =
-      ⊎_elim (λ k. ⊎_elim zero_row leaf_row (either {a = is_false_row i (word0 rows i) (word1 rows i)} k)) (λ k. absurd-gate k)
+      ⊎_elim (λ k. ⊎_elim zero_row leaf_row (either {a = is_false_row i (word0 rows i) (word1 rows i)} k)) (λ k. absurd_gate k)
       (either {a = is_false_row i (word0 rows i) (word1 rows i) || leaf_at rows i} (good i l))
     where
       zero_row : is_false_row i (word0 rows i) (word1 rows i) ≡ true → Right i
@@ -87,8 +87,8 @@ module _ (shortcuts : Bool) (rows : List ℕ) (used : ℕ) (good : AllRows rows 
       leaf_row : leaf_at rows i ≡ true → Right i
       leaf_row k = sym (value_other rows v i h ∙ rw k)
 
-      absurd-gate : gate_at rows i ≡ true → Right i
-      absurd-gate k = cc
+      absurd_gate : gate_at rows i ≡ true → Right i
+      absurd_gate k = cc
 
   -- of the rows below n, in any marks with which the clauses of the walk are met
   abbrev RightBelow : ℕ → Type 0
@@ -99,8 +99,8 @@ module _ (shortcuts : Bool) (rows : List ℕ) (used : ℕ) (good : AllRows rows 
     abbrev Rest : Shape → Type 0
     Rest s = meets v (clauses_of (2 * i) s) && meets v (walk shortcuts rows i (mark_edges (operands s) marks)) ≡ true → (j : ℕ) → (j ≡ i) ⊎ (j < i) → Flagged marks j → Right j
 
-    written-right : gate_at rows i ≡ true → Rest (shape_of shortcuts rows (word0 rows i) (word1 rows i))
-    written-right g h j d m = go d
+    written_right : gate_at rows i ≡ true → Rest (shape_of shortcuts rows (word0 rows i) (word1 rows i))
+    written_right g h j d m = go d
       where
         s : Shape
         s = shape_of shortcuts rows (word0 rows i) (word1 rows i)
@@ -114,37 +114,37 @@ module _ (shortcuts : Bool) (rows : List ℕ) (used : ℕ) (good : AllRows rows 
         right : (k : ℕ) → k < i → Flagged after k → Right k
         right = below after (omega (arith, edges_long (operands s) marks)) met.1
 
-        operand-right : (k : ℕ) → k < length (operands s) → Right (id_of (get_or (operands s) k 0))
-        operand-right k b =
+        operand_right : (k : ℕ) → k < length (operands s) → Right (id_of (get_or (operands s) k 0))
+        operand_right k b =
             let u = ltb-true _ _ (every_at (used_edge i) (operands s) (shape_fits shortcuts rows v i g).low k b) in
             right (id_of (get_or (operands s) k 0)) u (edges_flagged (operands s) marks k b (omega arith))
 
         go : (j ≡ i) ⊎ (j < i) → Right j
-        go (inl e) = rw e (gate_right i g met.0 operand-right)
+        go (inl e) = rw e (gate_right i g met.0 operand_right)
         go (inr d) = right j d (edges_keep (operands s) marks j m)
 
-    passed-right : eqb (get_or marks i 0) 1 && gate_at rows i ≡ false → Rest Unwritten
-    passed-right t h j (inl e) m = rw e (other_right i l (rw (eq-eqb (get_or marks i 0) 1 (rw e at m)) at t))
-    passed-right t h j (inr d) m = below marks (omega arith) (unfold meets clauses_of operands mark_edges in h) j d m
+    passed_right : eqb (get_or marks i 0) 1 && gate_at rows i ≡ false → Rest Unwritten
+    passed_right t h j (inl e) m = rw e (other_right i l (rw (eq-eqb (get_or marks i 0) 1 (rw e at m)) at t))
+    passed_right t h j (inr d) m = below marks (omega arith) (unfold meets clauses_of operands mark_edges in h) j d m
 
-    row-right : Rest (written_at shortcuts rows i marks)
+    row_right : Rest (written_at shortcuts rows i marks)
     unfolding written_at
-    row-right =
+    row_right =
         cond_case Rest (eqb (get_or marks i 0) 1 && gate_at rows i)
-        (λ h. written-right (both {a = eqb (get_or marks i 0) 1} {b = gate_at rows i} h).1)
-        (λ h. passed-right h)
+        (λ h. written_right (both {a = eqb (get_or marks i 0) 1} {b = gate_at rows i} h).1)
+        (λ h. passed_right h)
 
   pub walk_right : (n : ℕ) → n ≤ used → RightBelow n
   unfolding walk
   walk_right zero u marks long h j l m = absurd (omega arith)
   walk_right (suc i) u marks long h j l m =
-      row-right i (omega arith) (walk_right i (omega arith)) marks long (sym (meets_both v _ _) ∙ h) j (eq-or-lt_of_le (omega arith)) m
+      row_right i (omega arith) (walk_right i (omega arith)) marks long (sym (meets_both v _ _) ∙ h) j (eq-or-lt_of_le (omega arith)) m
 
 -- ---- the clauses of a graph
 -- the unit clause says that row 0 is false
 unit_says : (v : ℕ → Bool) → holds v unit ≡ not (v 0)
 unfolding holds edge_value
-unit_says v = or-false (not (v 0))
+unit_says v = or_false (not (v 0))
 
 module _ (shortcuts : Bool) (g : Lent) (marks : ℕ) (s : Sized g marks) (w : WellFormed g) where
   abbrev start : List ℕ

@@ -69,13 +69,13 @@ module _ (marks es : List ℕ) where
   mark_none e = rw e
 
   module _ {m₁ m₂ : List ℕ} where
-    pub mark-two : (a b : ℕ) → es ≡ a ∷ b ∷ [] → m₁ ≡ mark_edges (a ∷ []) marks → m₂ ≡ mark_edges (b ∷ []) m₁ → m₂ ≡ mark_edges es marks
+    pub mark_two : (a b : ℕ) → es ≡ a ∷ b ∷ [] → m₁ ≡ mark_edges (a ∷ []) marks → m₂ ≡ mark_edges (b ∷ []) m₁ → m₂ ≡ mark_edges es marks
     unfolding mark_edges
-    mark-two a b e p q = q ∙ rw (e, p)
+    mark_two a b e p q = q ∙ rw (e, p)
 
-    pub mark-three : (a b c : ℕ) {m₃ : List ℕ} → es ≡ a ∷ b ∷ c ∷ [] → m₁ ≡ mark_edges (a ∷ []) marks → m₂ ≡ mark_edges (b ∷ []) m₁ → m₃ ≡ mark_edges (c ∷ []) m₂ → m₃ ≡ mark_edges es marks
+    pub mark_three : (a b c : ℕ) {m₃ : List ℕ} → es ≡ a ∷ b ∷ c ∷ [] → m₁ ≡ mark_edges (a ∷ []) marks → m₂ ≡ mark_edges (b ∷ []) m₁ → m₃ ≡ mark_edges (c ∷ []) m₂ → m₃ ≡ mark_edges es marks
     unfolding mark_edges
-    mark-three a b c e p q r = r ∙ rw (e, q, p)
+    mark_three a b c e p q r = r ∙ rw (e, q, p)
 
 -- ---- one row
 module _ (shortcuts : Bool) (rows : List ℕ) (i : ℕ) (marks : List ℕ) {t : Bool} (p : t ≡ gate_at rows i) where
@@ -121,24 +121,24 @@ module _ (shortcuts : Bool) (rows : List ℕ) where
 
   -- row i - 1 is next, written as s
   module _ (i : ℕ) (marks : List ℕ) (l : 0 < i) (s : Shape) (e : s ≡ written_at shortcuts rows (i - 1) marks) where
-    pub left-turn : words_left shortcuts rows i marks ≡ words (clauses_of (2 * (i - 1)) s) ++ words_left shortcuts rows (i - 1) (mark_edges (operands s) marks)
+    pub left_turn : words_left shortcuts rows i marks ≡ words (clauses_of (2 * (i - 1)) s) ++ words_left shortcuts rows (i - 1) (mark_edges (operands s) marks)
     unfolding walk
-    left-turn =
+    left_turn =
         let d : i ≡ suc (i - 1) = omega arith in
         ap (λ (k : ℕ). words_left shortcuts rows k marks) d ∙
         (words_both (clauses_of (2 * (i - 1)) (written_at shortcuts rows (i - 1) marks)) (walk shortcuts rows (i - 1) (mark_edges (operands (written_at shortcuts rows (i - 1) marks)) marks)) ∙
         rw e)
 
-    pub left-size : length (words_left shortcuts rows i marks) ≡ length (words (clauses_of (2 * (i - 1)) s)) + length (words_left shortcuts rows (i - 1) (mark_edges (operands s) marks))
-    left-size = ap length left-turn ∙ length-append (words (clauses_of (2 * (i - 1)) s)) _
+    pub left_size : length (words_left shortcuts rows i marks) ≡ length (words (clauses_of (2 * (i - 1)) s)) + length (words_left shortcuts rows (i - 1) (mark_edges (operands s) marks))
+    left_size = ap length left_turn ∙ length-append (words (clauses_of (2 * (i - 1)) s)) _
 
     -- ---- the loop: the clauses of row i - 1 are written, and the others after them
     module _ {after : List ℕ} (at : ℕ) {end : ℕ} (marked : after ≡ mark_edges (operands s) marks) (behind : end ≡ at + length (words (clauses_of (2 * (i - 1)) s))) where
-      pub place-turn : {total : ℕ} → at + length (words_left shortcuts rows i marks) ≡ total → end + length (words_left shortcuts rows (i - 1) after) ≡ total
-      place-turn h = rw marked (omega (arith, left-size))
+      pub place_turn : {total : ℕ} → at + length (words_left shortcuts rows i marks) ≡ total → end + length (words_left shortcuts rows (i - 1) after) ≡ total
+      place_turn h = rw marked (omega (arith, left_size))
 
-      pub write-turn : (out : List ℕ) {next whole : List ℕ} → WrittenIfRoom out at (words (clauses_of (2 * (i - 1)) s)) next → at + length (words_left shortcuts rows i marks) ≤ length out
+      pub write_turn : (out : List ℕ) {next whole : List ℕ} → WrittenIfRoom out at (words (clauses_of (2 * (i - 1)) s)) next → at + length (words_left shortcuts rows i marks) ≤ length out
           → sets out at (words_left shortcuts rows i marks) ≡ whole → sets next end (words_left shortcuts rows (i - 1) after) ≡ whole
-      write-turn out p room h =
-          rw (marked, behind, p (omega (arith, left-size)))
-          (sym (sets_both out (words (clauses_of (2 * (i - 1)) s)) (words_left shortcuts rows (i - 1) (mark_edges (operands s) marks)) at) ∙ (ap (sets out at) (sym left-turn) ∙ h))
+      write_turn out p room h =
+          rw (marked, behind, p (omega (arith, left_size)))
+          (sym (sets_both out (words (clauses_of (2 * (i - 1)) s)) (words_left shortcuts rows (i - 1) (mark_edges (operands s) marks)) at) ∙ (ap (sets out at) (sym left_turn) ∙ h))

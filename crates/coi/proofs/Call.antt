@@ -126,24 +126,24 @@ module _ (g : Lent) (ids flags marks stack : List ℕ) (a : Answer) {after : Lis
     past : eqb number 1 ≡ false
     past = sym is_one ∙ h
 
-    not-one : number ≡ 1 → ⊥
-    not-one = eqb-false number 1 past
+    not_one : number ≡ 1 → ⊥
+    not_one = eqb-false number 1 past
 
-    pub stack-room : g.counts.rows ≤ length stack
-    stack-room = (own_sizes g ids (length flags) (length stack) (coi_roomy g ids (length flags) (length stack) marks not-one)).1
+    pub stack_room : g.counts.rows ≤ length stack
+    stack_room = (own_sizes g ids (length flags) (length stack) (coi_roomy g ids (length flags) (length stack) marks not_one)).1
 
     -- the stack is cleared, and d says whether the answer is done
     module _ {stack' : List ℕ} (clear : stack' ≡ cleared g.counts.rows stack) {d : Bool} (test : d ≡ eqb (told a).number 0) where
-      pub coi-refused : not d ≡ true → coi_seen a flags after stack' ≡ coi_call g ids flags marks stack
+      pub coi_refused : not d ≡ true → coi_seen a flags after stack' ≡ coi_call g ids flags marks stack
       unfolding coi_call
-      coi-refused k = rw (test_refused given test k, past, given, kept, clear)
+      coi_refused k = rw (test_refused given test k, past, given, kept, clear)
 
       module _ (k : not d ≡ false) where
         done : eqb number 0 ≡ true
         done = test_done given test k
 
         marks_are : after ≡ cleared g.counts.rows marks
-        marks_are = kept ∙ marks_cleared g ids (length flags) (length stack) marks not-one
+        marks_are = kept ∙ marks_cleared g ids (length flags) (length stack) marks not_one
 
         pub parts : Parts g ids flags after stack'
         parts =
@@ -166,13 +166,13 @@ module _ (g : Lent) (ids flags marks stack : List ℕ) (a : Answer) {after : Lis
               same_long = s ∙ sym e;
             }
 
-        pub coi-done : {x y z : List ℕ}
+        pub coi_done : {x y z : List ℕ}
             → x ≡ searched (steps g.rows g.latches g.counts.latches) (length (take g.counts.rows flags)) ids
             → y ≡ replicate (length (take g.counts.rows flags)) 0
             → z ≡ replicate (length (take g.counts.rows flags)) 0
             → coi_seen a (x ++ drop g.counts.rows flags) (y ++ drop g.counts.rows after) (z ++ drop g.counts.rows stack') ≡ coi_call g ids flags marks stack
         unfolding coi_call
-        coi-done {x} {y} {z} p q r =
+        coi_done {x} {y} {z} p q r =
             let e = parts.flags_part in
             let n = g.counts.rows in
             let y' = zeros_again n marks marks_are (q ∙ ap (λ (i : ℕ). replicate i 0) e) ∙ (sym marks_are ∙ kept) in

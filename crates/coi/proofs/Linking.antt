@@ -46,20 +46,20 @@ module _ (latches : List ℕ) where
 
   -- ---- the latch of a row
   pub data Of (n i : ℕ) : ℕ → Type 0 where
-    no-latch : Of n i 0
-    is-latch : (k : ℕ) → k < n → (latch_at latches k).input ≡ i → Of n i (suc k)
+    no_latch_lem : Of n i 0
+    is_latch : (k : ℕ) → k < n → (latch_at latches k).input ≡ i → Of n i (suc k)
 
   pub latch_of_lem : (n i : ℕ) → Of n i (latch_of latches n i)
   unfolding latch_of
-  latch_of_lem zero i = no-latch
+  latch_of_lem zero i = no_latch_lem
   latch_of_lem (suc n) i = go (eqb (latch_at latches n).input i) refl (latch_of_lem n i)
     where
       more : {at : ℕ} → Of n i at → Of (suc n) i at
-      more no-latch = no-latch
-      more (is-latch k l e) = is-latch k (omega arith) e
+      more no_latch_lem = no_latch_lem
+      more (is_latch k l e) = is_latch k (omega arith) e
 
       go : (t : Bool) → eqb (latch_at latches n).input i ≡ t → Of n i (latch_of latches n i) → Of (suc n) i (cond t (suc n) (latch_of latches n i))
-      go true e o = is-latch n (omega arith) (eqb-true _ _ e)
+      go true e o = is_latch n (omega arith) (eqb-true _ _ e)
       go false e o = more o
 
   -- where no two latches have one input

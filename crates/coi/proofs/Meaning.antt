@@ -22,15 +22,15 @@ use Rattle.graph.proofs.Listed.{all_long, latch_at_lem}
 use Rattle.root_marks.specs.Arguments.{every}
 use Rattle.root_marks.specs.Flags.{Flagged, Closed}
 use Rattle.root_marks.proofs.Arguments.{every_at, at_every, args_accepts, args_answers}
-use Rattle.root_marks.proofs.Flagging.{same_flags, same-value}
+use Rattle.root_marks.proofs.Flagging.{same_flags, same_value}
 use Rattle.coi.specs.Coi.{latch_of, crossed, steps_at, steps, coi_of, used_row}
 use Rattle.coi.specs.Call.{coi_room, coi_checked, coi_call}
 use Rattle.coi.specs.Meaning.{Reached, IsCoi, CoiLent, CoiRight}
 use Rattle.coi.specs.Meaning.Reached.{always, root, left, right, latch}
 use Rattle.coi.proofs.Walking.{steps_used}
 use Rattle.coi.proofs.Linking.{Of, latch_of_lem, latch_found}
-use Rattle.coi.proofs.Linking.Of.{no-latch, is-latch}
-use Rattle.coi.proofs.Searching.{On, on_at, Place, place, Searched, search-right}
+use Rattle.coi.proofs.Linking.Of.{no_latch_lem, is_latch}
+use Rattle.coi.proofs.Searching.{On, on_at, Place, place, Searched, search_right}
 use Rattle.coi.proofs.Call.{coi_accepted, own_sizes, ready}
 
 -- ---- the rows one step from row i
@@ -39,7 +39,7 @@ module _ (rows latches : List ℕ) (at i : ℕ) where
   data Step (j : ℕ) : Type 0 where
     by_left : gate_at rows i ≡ true → j ≡ id_of (word0 rows i) → Step j
     by_right : gate_at rows i ≡ true → j ≡ id_of (word1 rows i) → Step j
-    by-latch : (at ≡ 0 → ⊥) → j ≡ id_of (latch_at latches (at - 1)).next → Step j
+    by_latch : (at ≡ 0 → ⊥) → j ≡ id_of (latch_at latches (at - 1)).next → Step j
 
   step_is : (j : ℕ) → On j (steps_at rows latches at i) → Step j
   unfolding steps_at
@@ -47,7 +47,7 @@ module _ (rows latches : List ℕ) (at i : ℕ) where
     where
       cross : (t : Bool) → eqb at 0 ≡ t → On j (cond t [] (id_of (latch_at latches (at - 1)).next ∷ [])) → Step j
       cross true e o = absurd (Memᴰ.not-nil o)
-      cross false e o = ⊎_elim (λ (q : j ≡ id_of (latch_at latches (at - 1)).next). by-latch (eqb-false at 0 e) q) (λ (m : On j []). absurd (Memᴰ.not-nil m)) (Memᴰ.cases_cons o)
+      cross false e o = ⊎_elim (λ (q : j ≡ id_of (latch_at latches (at - 1)).next). by_latch (eqb-false at 0 e) q) (λ (m : On j []). absurd (Memᴰ.not-nil m)) (Memᴰ.cases_cons o)
 
       second : gate_at rows i ≡ true → On j (id_of (word1 rows i) ∷ []) → Step j
       second g o = ⊎_elim (λ (q : j ≡ id_of (word1 rows i)). by_right g q) (λ (m : On j []). absurd (Memᴰ.not-nil m)) (Memᴰ.cases_cons o)
@@ -97,8 +97,8 @@ module _ (g : Lent) (marks : ℕ) (s : Sized g marks) (w : WellFormed g) where
   next_used i l = steps_used g.rows g.latches (latch_of g.latches g.counts.latches i) i used l (go (latch_of_lem g.latches g.counts.latches i))
     where
       go : {at : ℕ} → Of g.latches g.counts.latches i at → 0 < at → id_of (latch_at g.latches (at - 1)).next < used
-      go no-latch h = absurd (omega arith)
-      go (is-latch k m e) h = let p : suc k - 1 ≡ k = omega arith in rw p (w.nexts k m)
+      go no_latch_lem h = absurd (omega arith)
+      go (is_latch k m e) h = let p : suc k - 1 ≡ k = omega arith in rw p (w.nexts k m)
 
   module _ (ids : List ℕ) (ids_used : every (used_row used) ids ≡ true) where
     abbrev Reach : ℕ → Type 0
@@ -109,15 +109,15 @@ module _ (g : Lent) (marks : ℕ) (s : Sized g marks) (w : WellFormed g) where
     step i j l r o = by (latch_of_lem g.latches g.counts.latches i) (step_is g.rows g.latches (latch_of g.latches g.counts.latches i) i j o)
       where
         cross : {at : ℕ} → Of g.latches g.counts.latches i at → (at ≡ 0 → ⊥) → j ≡ id_of (latch_at g.latches (at - 1)).next → Reach j
-        cross no-latch z q = absurd (z refl)
-        cross (is-latch k m e) z q =
+        cross no_latch_lem z q = absurd (z refl)
+        cross (is_latch k m e) z q =
             let p : suc k - 1 ≡ k = omega arith in
             rw (q, p) (latch k m (rw e r))
 
         by : Of g.latches g.counts.latches i (latch_of g.latches g.counts.latches i) → Step g.rows g.latches (latch_of g.latches g.counts.latches i) i j → Reach j
         by f (by_left h q) = rw q (left r h)
         by f (by_right h q) = rw q (right r h)
-        by f (by-latch z q) = cross f z q
+        by f (by_latch z q) = cross f z q
 
     roots : (i : ℕ) → On i (0 ∷ ids) → Reach i
     roots i o = ⊎_elim (λ (e : i ≡ 0). rw e always) (λ (m : On i ids). by (place ids m)) (Memᴰ.cases_cons o)
@@ -128,22 +128,22 @@ module _ (g : Lent) (marks : ℕ) (s : Sized g marks) (w : WellFormed g) where
     abbrev cone : List ℕ
     cone = coi_of g ids
 
-    right-search : Searched used next next_used Reach step (ready g marks s w).small (ready g marks s w).some ids ids_used roots cone
-    right-search = search-right used next next_used Reach step (ready g marks s w).small (ready g marks s w).some ids ids_used roots
+    right_search : Searched used next next_used Reach step (ready g marks s w).small (ready g marks s w).some ids ids_used roots cone
+    right_search = search_right used next next_used Reach step (ready g marks s w).small (ready g marks s w).some ids ids_used roots
 
     closed : Closed g.rows cone
     closed i m h =
-        let t = right-search.closed i in
+        let t = right_search.closed i in
         (t _ m (left_on g.rows g.latches (latch_of g.latches g.counts.latches i) i h), t _ m (right_on g.rows g.latches (latch_of g.latches g.counts.latches i) i h))
 
     across : (k : ℕ) → k < g.counts.latches → Flagged cone (latch_at g.latches k).input → Flagged cone (id_of (latch_at g.latches k).next)
     across k l m =
         let i = (latch_at g.latches k).input in
-        right-search.closed i _ m (latch_on g.rows g.latches (latch_of g.latches g.counts.latches i) i (input_no_gate k l) k (latch_found g.latches g.counts.latches once k l))
+        right_search.closed i _ m (latch_on g.rows g.latches (latch_of g.latches g.counts.latches i) i (input_no_gate k l) k (latch_found g.latches g.counts.latches once k l))
 
     reached : {j : ℕ} → Reach j → Flagged cone j
-    reached always = right-search.roots-flagged 0 (Memᴰ.head refl)
-    reached (root k l) = right-search.roots-flagged (get_or ids k 0) (Memᴰ.tail (on_at ids k l))
+    reached always = right_search.roots_flagged 0 (Memᴰ.head refl)
+    reached (root k l) = right_search.roots_flagged (get_or ids k 0) (Memᴰ.tail (on_at ids k l))
     reached (left {i} r h) = (closed i (reached r) h).0
     reached (right {i} r h) = (closed i (reached r) h).1
     reached (latch k l r) = across k l (reached r)
@@ -151,12 +151,12 @@ module _ (g : Lent) (marks : ℕ) (s : Sized g marks) (w : WellFormed g) where
     pub is_coi : IsCoi g ids cone
     is_coi =
         record {
-          one_each = record { long = right-search.long; bits = right-search.bits };
+          one_each = record { long = right_search.long; bits = right_search.bits };
           reached = λ j r. reached r;
-          only = right-search.only;
+          only = right_search.only;
           closed = closed;
           crossed = across;
-          values = λ other leaf leaf' agree k l. same-value g.rows cone closed other leaf leaf' agree (get_or ids k 0) (reached (root k l));
+          values = λ other leaf leaf' agree k l. same_value g.rows cone closed other leaf leaf' agree (get_or ids k 0) (reached (root k l));
         }
 
 pub one_coi : (g : Lent) (ids a b : List ℕ) → IsCoi g ids a → IsCoi g ids b → a ≡ b

@@ -100,7 +100,7 @@ module _ (used : ℕ) where
       going : Going used used w
       bits : Bits w.flags
       only : (i : ℕ) → Flagged w.flags i → P i
-      waiting-flagged : (i : ℕ) → On i w.waiting → Flagged w.flags i
+      waiting_flagged : (i : ℕ) → On i w.waiting → Flagged w.flags i
       -- a flagged row waits, or the rows one step from it are flagged
       at : (i : ℕ) → Flagged w.flags i → On i w.waiting ⊎ ((j : ℕ) → On j (next i) → Flagged w.flags j)
 
@@ -125,8 +125,8 @@ module _ (used : ℕ) where
 
     -- row i is taken, and its steps are made
     module _ (f : List ℕ) (i : ℕ) (waiting : List ℕ) (s : Seeking (work f (i ∷ waiting))) where
-      i-used : i < used
-      i-used = (first_used used used i waiting s.going.rows_used).0
+      i_used : i < used
+      i_used = (first_used used used i waiting s.going.rows_used).0
 
       rest : Going used used (work f waiting)
       rest =
@@ -141,16 +141,16 @@ module _ (used : ℕ) where
       after = visited_all (next i) (work f waiting)
 
       made : Several (next i) (work f waiting) after
-      made = several (next i) (work f waiting) (fit i i-used) rest
+      made = several (next i) (work f waiting) (fit i i_used) rest
 
       turn : Seeking after
       turn =
           record {
-            going = visits_going used used (next i) (work f waiting) (fit i i-used) rest;
+            going = visits_going used used (next i) (work f waiting) (fit i i_used) rest;
             bits = made.bits s.bits;
-            only = λ k m. ⊎_elim (λ (h : Flagged f k). s.only k h) (λ (t : On k (next i) × On k after.waiting). step i k i-used (s.only i (s.waiting-flagged i (Memᴰ.head refl))) t.0)
+            only = λ k m. ⊎_elim (λ (h : Flagged f k). s.only k h) (λ (t : On k (next i) × On k after.waiting). step i k i_used (s.only i (s.waiting_flagged i (Memᴰ.head refl))) t.0)
                 (made.new k m);
-            waiting-flagged = λ k o. ⊎_elim (λ (m : On k waiting). made.keeps k (s.waiting-flagged k (Memᴰ.tail m))) (λ (m : On k (next i)). made.all k m) (made.older k o);
+            waiting_flagged = λ k o. ⊎_elim (λ (m : On k waiting). made.keeps k (s.waiting_flagged k (Memᴰ.tail m))) (λ (m : On k (next i)). made.all k m) (made.older k o);
             at = λ k m. ⊎_elim (λ (h : Flagged f k). before k (s.at k h)) (λ (t : On k (next i) × On k after.waiting). inl t.1) (made.new k m);
           }
         where
@@ -159,7 +159,7 @@ module _ (used : ℕ) where
           before k (inr c) = inr (λ j m. made.keeps j (c j m))
 
       fewer : (turns : ℕ) → turns_left (work f (i ∷ waiting)) ≤ suc turns → turns_left after ≤ turns
-      fewer turns l = omega (arith, visits_turns used used (next i) (work f waiting) (fit i i-used) rest)
+      fewer turns l = omega (arith, visits_turns used used (next i) (work f waiting) (fit i i_used) rest)
 
       kept : {found : List ℕ} → Found after.flags found → Found f found
       kept r = record { long = r.long; bits = r.bits; keeps = λ k m. r.keeps k (made.keeps k m); only = r.only; closed = r.closed }
@@ -189,7 +189,7 @@ module _ (used : ℕ) where
             going = visits_going used used (0 ∷ ids) (work (replicate used 0) []) all_used_lem (empty_going used small);
             bits = visits.bits (zero_bits used);
             only = λ i m. ⊎_elim (λ (h : Flagged (replicate used 0) i). absurd (none_flagged used i h)) (λ (t : On i (0 ∷ ids) × On i begun.waiting). roots i t.0) (visits.new i m);
-            waiting-flagged = λ i o. ⊎_elim (λ (m : On i []). absurd (Memᴰ.not-nil m)) (λ (m : On i (0 ∷ ids)). visits.all i m) (visits.older i o);
+            waiting_flagged = λ i o. ⊎_elim (λ (m : On i []). absurd (Memᴰ.not-nil m)) (λ (m : On i (0 ∷ ids)). visits.all i m) (visits.older i o);
             at = λ i m. ⊎_elim (λ (h : Flagged (replicate used 0) i). absurd (none_flagged used i h)) (λ (t : On i (0 ∷ ids) × On i begun.waiting). inl t.1) (visits.new i m);
           }
 
@@ -204,9 +204,9 @@ module _ (used : ℕ) where
       pub record Searched (flags : List ℕ) : Type 0 where
         pub long : length flags ≡ used
         pub bits : Bits flags
-        pub roots-flagged : (i : ℕ) → On i (0 ∷ ids) → Flagged flags i
+        pub roots_flagged : (i : ℕ) → On i (0 ∷ ids) → Flagged flags i
         pub only : (i : ℕ) → Flagged flags i → P i
         pub closed : (i j : ℕ) → Flagged flags i → On j (next i) → Flagged flags j
 
-      pub search-right : Searched (searched next used ids)
-      search-right = record { long = reach.long; bits = reach.bits; roots-flagged = λ i o. reach.keeps i (visits.all i o); only = reach.only; closed = reach.closed }
+      pub search_right : Searched (searched next used ids)
+      search_right = record { long = reach.long; bits = reach.bits; roots_flagged = λ i o. reach.keeps i (visits.all i o); only = reach.only; closed = reach.closed }

@@ -120,8 +120,8 @@ module _ (j : ℕ) (f s : List ℕ) (n : ℕ) where
   seen_on m = sym (visit_seen j (work_of f s n) m)
 
   module _ (g : Going (length f) (length s) (work_of f s n)) (l : j < length f) (h : Flagged f j → ⊥) where
-    pub push-room : n < length s
-    push-room = omega (arith, g.room, stacked_long s n, unflagged_set f j l h)
+    pub push_room : n < length s
+    push_room = omega (arith, g.room, stacked_long s n, unflagged_set f j l h)
 
-    pub new-on : work_of (set f j 1) (set s n j) (n + 1) ≡ visited j (work_of f s n)
-    new-on = ap (work (set f j 1)) (stacked_push s n j push-room) ∙ sym (visit_new j (work_of f s n) h)
+    pub new_on : work_of (set f j 1) (set s n j) (n + 1) ≡ visited j (work_of f s n)
+    new_on = ap (work (set f j 1)) (stacked_push s n j push_room) ∙ sym (visit_new j (work_of f s n) h)

@@ -83,20 +83,20 @@ module _ (used space : ℕ) (f s : List ℕ) (n : ℕ) (l : 0 < n) (g : Going us
 
   module _ (next : ℕ → List ℕ) (fit : (i : ℕ) → i < used → every (used_row used) (next i) ≡ true) (f' s' : List ℕ) (n' : ℕ)
       (e : work_of f' s' n' ≡ visited_all (next (get_or s (n - 1) 0)) (work_of f s (n - 1))) where
-    pub turn-going : Going used space (work_of f' s' n')
-    turn-going = subst (λ (w : Work). Going used space w) (sym e) (visits_going used space (next (get_or s (n - 1) 0)) (work_of f s (n - 1)) (fit _ top_used) rest_going)
+    pub turn_going : Going used space (work_of f' s' n')
+    turn_going = subst (λ (w : Work). Going used space w) (sym e) (visits_going used space (next (get_or s (n - 1) 0)) (work_of f s (n - 1)) (fit _ top_used) rest_going)
 
-    turn-left : turns_left (work_of f' s' n') ≡ turns_left (work_of f s (n - 1))
-    turn-left = ap (λ (w : Work). turns_left w) e ∙ visits_turns used space (next (get_or s (n - 1) 0)) (work_of f s (n - 1)) (fit _ top_used) rest_going
+    turn_left : turns_left (work_of f' s' n') ≡ turns_left (work_of f s (n - 1))
+    turn_left = ap (λ (w : Work). turns_left w) e ∙ visits_turns used space (next (get_or s (n - 1) 0)) (work_of f s (n - 1)) (fit _ top_used) rest_going
 
-    pub turn-falls : suc (turns_left (work_of f' s' n')) ≡ turns_left (work_of f s n)
-    turn-falls = omega (arith, turn-left, stacked_long s n, stacked_long s (n - 1))
+    pub turn_falls : suc (turns_left (work_of f' s' n')) ≡ turns_left (work_of f s n)
+    turn_falls = omega (arith, turn_left, stacked_long s n, stacked_long s (n - 1))
 
-    pub turn-same : drained next (turns_left (work_of f' s' n')) f' (stacked s' n') ≡ drained next (turns_left (work_of f s n)) f (stacked s n)
+    pub turn_same : drained next (turns_left (work_of f' s' n')) f' (stacked s' n') ≡ drained next (turns_left (work_of f s n)) f (stacked s n)
     unfolding drained
-    turn-same =
+    turn_same =
         ap (λ (w : Work). drained next (turns_left (work_of f' s' n')) w.flags w.waiting) e
-        ∙ (ap (λ (t : List ℕ). drained next (suc (turns_left (work_of f' s' n'))) f t) (sym (stacked_top s n l)) ∙ ap (λ (t : ℕ). drained next t f (stacked s n)) turn-falls)
+        ∙ (ap (λ (t : List ℕ). drained next (suc (turns_left (work_of f' s' n'))) f t) (sym (stacked_top s n l)) ∙ ap (λ (t : ℕ). drained next t f (stacked s n)) turn_falls)
 
 -- none waits
 pub drained_none : (next : ℕ → List ℕ) (turns : ℕ) (f s : List ℕ) (n : ℕ) → n ≤ 0 → drained next turns f (stacked s n) ≡ f

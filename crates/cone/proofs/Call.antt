@@ -66,6 +66,6 @@ module _ (g : Lent) (roots flags marks : List ℕ) (a : Answer) {after : List �
         let e = length-take-le g.counts.rows flags l in
         record { long = l; part = e; rows = omega (arith, t.sized.rows.fit.within); used = rw e t.all_good }
 
-    pub cone-done : {part : List ℕ} → part ≡ cone_of g.rows (length (take g.counts.rows flags)) roots → cone_seen a (part ++ drop g.counts.rows flags) after ≡ cone_call g roots flags marks
+    pub cone_done : {part : List ℕ} → part ≡ cone_of g.rows (length (take g.counts.rows flags)) roots → cone_seen a (part ++ drop g.counts.rows flags) after ≡ cone_call g roots flags marks
     unfolding cone_call
-    cone-done w = rw (done, given, kept, w, ready.part)
+    cone_done w = rw (done, given, kept, w, ready.part)

@@ -22,7 +22,7 @@ use Rattle.graph.specs.Graph.{Lent}
 use Rattle.root_marks.specs.Arguments.{every}
 use Rattle.root_marks.specs.Marking.{mark_edges}
 use Rattle.root_marks.specs.Flags.{Flagged, Flags, Closed}
-use Rattle.root_marks.proofs.Flagging.{set_keeps, set_cases, Bits, none_flagged, zero_bits, set_bits, same_flags, same-value, same_edge}
+use Rattle.root_marks.proofs.Flagging.{set_keeps, set_cases, Bits, none_flagged, zero_bits, set_bits, same_flags, same_value, same_edge}
 use Rattle.root_marks.proofs.Marking.{EdgeAt, edges_long, edges_bits, edges_flagged, edges_only}
 use Rattle.cone.specs.Cone.{mark_row, mark_below, cone_of}
 use Rattle.cone.specs.Call.{cone_room, cone_checked, cone_call}
@@ -68,28 +68,28 @@ module _ (rows : List ℕ) where
     unfolding mark_row
     row_is = simp (eq-eqb _ _ m, g)
 
-    row-left : Flagged (mark_row rows i f) (left i)
-    row-left =
+    row_left : Flagged (mark_row rows i f) (left i)
+    row_left =
         let h = gate_below i (word0 rows i) (word1 rows i) g in
         rw row_is (set_keeps (set f (left i) 1) (right i) (left i) (get_or-set_same f (left i) 1 0 (omega arith)))
 
-    row-right : Flagged (mark_row rows i f) (right i)
-    row-right =
+    row_right : Flagged (mark_row rows i f) (right i)
+    row_right =
         let h = gate_below i (word0 rows i) (word1 rows i) g in
         rw row_is (get_or-set_same (set f (left i) 1) (right i) 1 0 (rw length-set (omega arith)))
 
   -- a row flagged now was flagged, or is a fanin of row i
   data From (i : ℕ) (f : List ℕ) (j : ℕ) : Type 0 where
     kept : Flagged f j → From i f j
-    as-left : j ≡ left i → Flagged f i → gate_at rows i ≡ true → From i f j
-    as-right : j ≡ right i → Flagged f i → gate_at rows i ≡ true → From i f j
+    as_left : j ≡ left i → Flagged f i → gate_at rows i ≡ true → From i f j
+    as_right : j ≡ right i → Flagged f i → gate_at rows i ≡ true → From i f j
 
   row_from : (i : ℕ) (f : List ℕ) (j : ℕ) → Flagged (mark_row rows i f) j → From i f j
   row_from i f j =
       elim (did i f) as (λ f' _. Flagged f' j → From i f j) [
         | flags m g ↦ λ h.
-            ⊎_elim (λ p. as-right p.0 m g)
-            (λ e. ⊎_elim (λ q. as-left q.0 m g) (λ d. kept (sym d ∙ (sym e ∙ h))) (set_cases f (left i) j))
+            ⊎_elim (λ p. as_right p.0 m g)
+            (λ e. ⊎_elim (λ q. as_left q.0 m g) (λ d. kept (sym d ∙ (sym e ∙ h))) (set_cases f (left i) j))
             (set_cases (set f (left i) 1) (right i) j)
         | stays ↦ λ h. kept h
       ]
@@ -117,10 +117,10 @@ module _ (rows : List ℕ) where
   reached_top n f j k below here e m = below_keeps n (mark_row rows n f) j (row_keeps n f j m)
   reached_top n f j k below (by0 {i} g r) e m =
       let t = gate_below i (word0 rows i) (word1 rows i) g in
-      below (left i) (omega arith) (rw (← e) (row-left i f (omega arith) m g)) r
+      below (left i) (omega arith) (rw (← e) (row_left i f (omega arith) m g)) r
   reached_top n f j k below (by1 {i} g r) e m =
       let t = gate_below i (word0 rows i) (word1 rows i) g in
-      below (right i) (omega arith) (rw (← e) (row-right i f (omega arith) m g)) r
+      below (right i) (omega arith) (rw (← e) (row_right i f (omega arith) m g)) r
 
   reached_below : (n : ℕ) (f : List ℕ) (i j : ℕ) → n ≤ length f → i < n → Flagged f i → InCone rows j i → Flagged (mark_below rows n f) j
   unfolding mark_below
@@ -146,8 +146,8 @@ module _ (rows : List ℕ) where
         where
           by : From n f s.at → Started f j
           by (kept h) = record { at = s.at; flagged = h; path = s.path }
-          by (as-left e h g) = record { at = n; flagged = h; path = by0 g (rw e at s.path) }
-          by (as-right e h g) = record { at = n; flagged = h; path = by1 g (rw e at s.path) }
+          by (as_left e h g) = record { at = n; flagged = h; path = by0 g (rw e at s.path) }
+          by (as_right e h g) = record { at = n; flagged = h; path = by1 g (rw e at s.path) }
 
   -- ---- the cone
   further : (j : ℕ) {i r : ℕ} → InCone rows j i → InCone rows i r → InCone rows j r
@@ -202,7 +202,7 @@ module _ (rows : List ℕ) where
           only = only;
           closed = closed;
           values = λ other leaf leaf' agree k l. same_edge _ _ (get_or roots k 0)
-              (same-value rows cone closed other leaf leaf' agree (id_of (get_or roots k 0)) (reached (id_of (get_or roots k 0)) (record { root = k; within = l; path = here })));
+              (same_value rows cone closed other leaf leaf' agree (id_of (get_or roots k 0)) (reached (id_of (get_or roots k 0)) (record { root = k; within = l; path = here })));
         }
 
   pub one_cone : (used : ℕ) (roots a b : List ℕ) → IsCone rows used roots a → IsCone rows used roots b → a ≡ b

@@ -26,7 +26,7 @@ use Rattle.frame.specs.Call.{FrameReady}
 use Rattle.frame.proofs.Mapping.{start_length}
 use Rattle.frame.proofs.Framing.{gate_of, by_kind, kind_of, turn, row_stays}
 use Rattle.frame.proofs.Ready.{as_many, same_input, part_long}
-use Rattle.frame.proofs.Valuing.{start-zero, leaf_some}
+use Rattle.frame.proofs.Valuing.{start_zero, leaf_some}
 
 -- ---- the new leaves, counted
 bit_most : (t : Bool) → cond t 1 0 ≤ 1
@@ -55,13 +55,13 @@ module _ (from map : List ℕ) (n i count whole : ℕ) (inv : count + new_leaves
     unfolding new_leaves
     step = let q : n - i ≡ suc (n - (i + 1)) = omega arith in rw q
 
-    pub leaves-one : new_leaf from map i ≡ true → {now : ℕ} → now ≡ count + 1 → now + new_leaves from map (i + 1) (n - (i + 1)) ≡ whole
-    leaves-one t {now} e =
+    pub leaves_one : new_leaf from map i ≡ true → {now : ℕ} → now ≡ count + 1 → now + new_leaves from map (i + 1) (n - (i + 1)) ≡ whole
+    leaves_one t {now} e =
         let h : new_leaves from map i (n - i) ≡ 1 + new_leaves from map (i + 1) (n - (i + 1)) = step ∙ ap (λ (u : Bool). cond u 1 0 + new_leaves from map (i + 1) (n - (i + 1))) t in
         omega (arith, h, inv, e)
 
-    pub leaves-no : new_leaf from map i ≡ false → {now : ℕ} → now ≡ count → now + new_leaves from map (i + 1) (n - (i + 1)) ≡ whole
-    leaves-no t {now} e =
+    pub leaves_no : new_leaf from map i ≡ false → {now : ℕ} → now ≡ count → now + new_leaves from map (i + 1) (n - (i + 1)) ≡ whole
+    leaves_no t {now} e =
         let h : new_leaves from map i (n - i) ≡ 0 + new_leaves from map (i + 1) (n - (i + 1)) = step ∙ ap (λ (u : Bool). cond u 1 0 + new_leaves from map (i + 1) (n - (i + 1))) t in
         omega (arith, h, inv, e)
 
@@ -155,7 +155,7 @@ module _ (at : Counts) (latches from : List ℕ) (n : Counts) (some : 0 < n.rows
   unfolding frame_of raised
   within =
       let s = frame [] at.rows [] at.inputs (start_map latches at.latches n.rows) in
-      let z = start-zero latches at.latches n.rows some (λ j l e. absurd (omega (arith, b.behind j l, e))) in
+      let z = start_zero latches at.latches n.rows some (λ j l e. absurd (omega (arith, b.behind j l, e))) in
       frame_most from n.rows s some z b.rows
 
   room_kept : (room : Counts) → Fits room most → Fits room need

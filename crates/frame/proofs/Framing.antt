@@ -72,7 +72,7 @@ module _ (from : List ℕ) (i : ℕ) (s : Frame) where
     pub more : s.used ≤ t.used
     pub most : t.used ≤ s.used + 1
     pub listed_more : s.listed ≤ t.listed
-    pub listed-most : t.listed ≤ s.listed + 1
+    pub listed_most : t.listed ≤ s.listed + 1
     pub rows_long : length t.rows ≡ length s.rows
     pub inputs_long : length t.inputs ≡ length s.inputs
     pub map_long : length t.map ≡ length s.map
@@ -83,18 +83,18 @@ module _ (from : List ℕ) (i : ℕ) (s : Frame) where
       go : (t u : Bool) → Turn (by_kind t u)
       go true u =
           let z = and_sized s.rows s.used (mapped s.map (word0 from i)) (mapped s.map (word1 from i)) in
-          record { more = z.more; most = z.most; listed_more = omega arith; listed-most = omega arith; rows_long = z.long; inputs_long = refl; map_long = length-set s.map i gate_of.edge }
+          record { more = z.more; most = z.most; listed_more = omega arith; listed_most = omega arith; rows_long = z.long; inputs_long = refl; map_long = length-set s.map i gate_of.edge }
       go false true =
           record {
             more = omega arith;
             most = omega arith;
             listed_more = omega arith;
-            listed-most = omega arith;
+            listed_most = omega arith;
             rows_long = row-added-long s.rows s.used none 0;
             inputs_long = length-set s.inputs s.listed s.used;
             map_long = length-set s.map i (2 * s.used);
           }
-      go false false = record { more = omega arith; most = omega arith; listed_more = omega arith; listed-most = omega arith; rows_long = refl; inputs_long = refl; map_long = refl }
+      go false false = record { more = omega arith; most = omega arith; listed_more = omega arith; listed_most = omega arith; rows_long = refl; inputs_long = refl; map_long = refl }
 
   pub turned : (t : Frame) → t ≡ frame_row from i s → Turn t
   turned t e = rw e turn

@@ -76,9 +76,9 @@ module _ (a b : Lent) (marks : ℕ) (r : FrameReady a b marks) where
   few = omega (arith, r.from.rows.fit.within, r.from.rows.fit.limited)
 
   module _ (room : Room a (framed a b).counts) (map : List ℕ) (long : length map ≡ b.counts.rows) where
-    pub lists-ready : ListsReady map (lists_of a) a.counts (lists_of b) b.counts
+    pub lists_ready : ListsReady map (lists_of a) a.counts (lists_of b) b.counts
     unfolding framed raised
-    lists-ready =
+    lists_ready =
         record {
           used = rw long (lists_used b marks r.from r.from_formed);
           latches = omega (arith, as_many a b r.start, r.target.latches.within);
@@ -106,8 +106,8 @@ module _ (n : ℕ) (marks : List ℕ) (h : n ≤ length marks) where
   part_long = length-take-le n marks h
 
   module _ (map : List ℕ) (long : length map ≡ n) where
-    pub map-part : take n (map ++ drop n marks) ≡ map
-    map-part = take_at map (drop n marks) n long
+    pub map_part : take n (map ++ drop n marks) ≡ map
+    map_part = take_at map (drop n marks) n long
 
     pub map_cleared : cleared n (map ++ drop n marks) ≡ cleared n marks
     map_cleared = ap (λ (l : List ℕ). replicate n 0 ++ l) (drop_at map (drop n marks) n long)
@@ -115,8 +115,8 @@ module _ (n : ℕ) (marks : List ℕ) (h : n ≤ length marks) where
     pub marks_long : length (map ++ drop n marks) ≡ length marks
     marks_long = rw (length-append map (drop n marks), long, length-drop n marks) (omega arith)
 
-    pub marks-cover : n ≤ length (map ++ drop n marks)
-    marks-cover = rw (length-append map (drop n marks), long) (omega arith)
+    pub marks_cover : n ≤ length (map ++ drop n marks)
+    marks_cover = rw (length-append map (drop n marks), long) (omega arith)
 
 -- ---- the dry run
 pub need_told : (at : Counts) (latches from : List ℕ) (n : Counts) (marks : List ℕ) → n.rows ≤ length marks → {f : Frame} {r : Counts}
@@ -139,7 +139,7 @@ module _ (a b : Lent) (marks : List ℕ) (h : b.counts.rows ≤ length marks) {f
   unfolding framed
   whole {ls} {n} g r =
       let p : ls ≡ lists_grown f.map (lists_of a) a.counts (lists_of b) b.counts
-      = g ∙ ap (λ (x : List ℕ). lists_grown x (lists_of a) a.counts (lists_of b) b.counts) (map-part b.counts.rows marks h f.map map_long) in
+      = g ∙ ap (λ (x : List ℕ). lists_grown x (lists_of a) a.counts (lists_of b) b.counts) (map_part b.counts.rows marks h f.map map_long) in
       rw (p, r) (ap (λ (x : Frame). graph_of x.rows x.inputs (lists_grown x.map (lists_of a) a.counts (lists_of b) b.counts) (raised a.counts b.counts x.used x.listed)) between)
 
 -- ---- the step: `need` is what was counted, and `fits` says whether there is room for it

@@ -210,14 +210,14 @@ module _ (latches : List ℕ) where
         nexts_other n (set (replicate used none) 0 0) x h
         ∙ (get_or-set_other (replicate used none) 0 x 0 0 (λ (e : x ≡ 0). absurd (omega arith)) ∙ get_or-replicate {A = ℕ} used x none 0 l)
 
-    pub start-zero : 0 < used → ((j : ℕ) → j < n → (latch_at latches j).input ≡ 0 → ⊥) → get_or (start_map latches n used) 0 0 ≡ 0
+    pub start_zero : 0 < used → ((j : ℕ) → j < n → (latch_at latches j).input ≡ 0 → ⊥) → get_or (start_map latches n used) 0 0 ≡ 0
     unfolding start_map
-    start-zero p h = nexts_other n (set (replicate used none) 0 0) 0 h ∙ get_or-set_same (replicate used none) 0 0 0 (omega (arith, length-replicate {A = ℕ} used none))
+    start_zero p h = nexts_other n (set (replicate used none) 0 0) 0 h ∙ get_or-set_same (replicate used none) 0 0 0 (omega (arith, length-replicate {A = ℕ} used none))
 
-    start-latch : ((i j : ℕ) → i < j → j < n → (latch_at latches i).input ≡ (latch_at latches j).input → ⊥) → ((j : ℕ) → j < n → (latch_at latches j).input < used)
+    start_latch : ((i j : ℕ) → i < j → j < n → (latch_at latches i).input ≡ (latch_at latches j).input → ⊥) → ((j : ℕ) → j < n → (latch_at latches j).input < used)
         → (j : ℕ) → j < n → get_or (start_map latches n used) (latch_at latches j).input 0 ≡ (latch_at latches j).next
     unfolding start_map
-    start-latch d u j l =
+    start_latch d u j l =
         nexts_here n (set (replicate used none) 0 0) d (λ i p. omega (arith, u i p, length-set (replicate used none) 0 0, length-replicate {A = ℕ} used none)) j l
 
 -- a leaf is behind row 0
@@ -276,14 +276,14 @@ module _ (a b : Lent) (marks : ℕ) (r : FrameRoom a b marks) where
   at_latch j l =
       let k : j < a.counts.latches = rw as_b l in
       let x = (latch_at b.latches j).input in
-      let s : get_or o.map x 0 ≡ (latch_at a.latches j).next = ap (λ (y : ℕ). get_or o.map y 0) (sym (input_b j k)) ∙ start-latch a.latches a.counts.latches b.counts.rows apart
+      let s : get_or o.map x 0 ≡ (latch_at a.latches j).next = ap (λ (y : ℕ). get_or o.map y 0) (sym (input_b j k)) ∙ start_latch a.latches a.counts.latches b.counts.rows apart
       (λ i p. rw (input_b i p) (ready.from_formed.latches i (rw (sym as_b) p)).0) j k in
       at_start x (no_gate x (ready.from_formed.latches j l).0 (ready.from_formed.latches j l).1)
       (λ (e : get_or o.map x 0 ≡ none). no_none (latch_at a.latches j).next (ready.target_formed.nexts j k) (sym s ∙ e)) ∙ s
 
   at_zero : get_or f.map 0 0 ≡ 0
   at_zero =
-      let s = start-zero a.latches a.counts.latches b.counts.rows ready.from.rows.some (λ j l e. absurd (omega (arith, input_some j (rw (sym as_b) l), input_b j l, e))) in
+      let s = start_zero a.latches a.counts.latches b.counts.rows ready.from.rows.some (λ j l e. absurd (omega (arith, input_some j (rw (sym as_b) l), input_b j l, e))) in
       at_start 0 (zero_no_gate (word0 b.rows 0) (word1 b.rows 0)) (λ (e : get_or o.map 0 0 ≡ none). absurd (omega (arith, e, s))) ∙ s
     where
       zero_no_gate : (v w : ℕ) → gate_at b.rows 0 ≡ false
@@ -321,9 +321,9 @@ module _ (a b : Lent) (marks : ℕ) (r : FrameRoom a b marks) where
     v : ℕ → Bool
     v x = edge_value (value f.rows leaf) (get_or f.map x 0)
 
-    held-latch : (j : ℕ) → j < b.counts.latches → v (latch_at b.latches j).input ≡ edge_value (value a.rows leaf) (latch_at a.latches j).next
+    held_latch : (j : ℕ) → j < b.counts.latches → v (latch_at b.latches j).input ≡ edge_value (value a.rows leaf) (latch_at a.latches j).next
     unfolding v
-    held-latch j l =
+    held_latch j l =
         ap (edge_value (value f.rows leaf)) (at_latch j l)
         ∙ grows_edge a.rows a.counts.rows (state f.rows f.used 0) (extends a b marks r).rows leaf (latch_at a.latches j).next (ready.target_formed.nexts j (rw as_b l))
 
@@ -334,9 +334,9 @@ module _ (a b : Lent) (marks : ℕ) (r : FrameRoom a b marks) where
         let q : is_complemented x ≡ false = ne_eqb (x % 2) 1 (λ (z : x % 2 ≡ 1). omega arith) in
         rw (p, q)
 
-    held-leaf : (x : ℕ) → x < b.counts.rows → leaf_at b.rows x ≡ true → NoLatch b x → v x ≡ leaf (id_of (get_or f.map x 0))
+    held_leaf : (x : ℕ) → x < b.counts.rows → leaf_at b.rows x ≡ true → NoLatch b x → v x ≡ leaf (id_of (get_or f.map x 0))
     unfolding v
-    held-leaf x l p n =
+    held_leaf x l p n =
         let w = at_leaf x l p n in
         let k = get_or f.inputs w.at 0 in
         let u = (extends a b marks r).new w.at w.behind w.below in
@@ -344,15 +344,15 @@ module _ (a b : Lent) (marks : ℕ) (r : FrameRoom a b marks) where
         even (get_or f.map x 0) k w.edge ∙ (value_leaf f.rows f.used leaf few_used k u.below u.leaf ∙ ap leaf d)
 
     holds : HoldsNexts a b f leaf v
-    holds = record { latches = held-latch; leaves = held-leaf }
+    holds = record { latches = held_latch; leaves = held_leaf }
 
     module _ (leaf' : ℕ → Bool) (h : HoldsNexts a b f leaf leaf') where
       -- a leaf of b holds what leaf' says
-      leaf-latch : (j : ℕ) → j < b.counts.latches → v (latch_at b.latches j).input ≡ leaf' (latch_at b.latches j).input
-      leaf-latch j l = held-latch j l ∙ sym (h.latches j l)
+      leaf_latch : (j : ℕ) → j < b.counts.latches → v (latch_at b.latches j).input ≡ leaf' (latch_at b.latches j).input
+      leaf_latch j l = held_latch j l ∙ sym (h.latches j l)
 
-      leaf-new : (x : ℕ) → x < b.counts.rows → leaf_at b.rows x ≡ true → NoLatch b x → v x ≡ leaf' x
-      leaf-new x l p n = held-leaf x l p n ∙ sym (h.leaves x l p n)
+      leaf_new : (x : ℕ) → x < b.counts.rows → leaf_at b.rows x ≡ true → NoLatch b x → v x ≡ leaf' x
+      leaf_new x l p n = held_leaf x l p n ∙ sym (h.leaves x l p n)
 
       leaves : (x : ℕ) → x < b.counts.rows → leaf_at b.rows x ≡ true → v x ≡ leaf' x
       leaves x l p = go (member x (latch_inputs b.latches b.counts.latches)) refl
@@ -362,24 +362,24 @@ module _ (a b : Lent) (marks : ℕ) (r : FrameRoom a b marks) where
               let s = stands x (latch_inputs b.latches b.counts.latches) m in
               let j : s.at < b.counts.latches = omega (arith, s.within, inputs_long b.latches b.counts.latches) in
               let q : (latch_at b.latches s.at).input ≡ x = sym (latch_input b.latches b.counts.latches s.at j) ∙ s.same in
-              ap v (sym q) ∙ (leaf-latch s.at j ∙ ap leaf' q)
+              ap v (sym q) ∙ (leaf_latch s.at j ∙ ap leaf' q)
           go false m =
-              leaf-new x l p
+              leaf_new x l p
               (λ j k e.
               let y = is_member (latch_inputs b.latches b.counts.latches) j (omega (arith, inputs_long b.latches b.counts.latches)) in
               let z : get_or (latch_inputs b.latches b.counts.latches) j 0 ≡ x = latch_input b.latches b.counts.latches j k ∙ e in
               false_true (sym m ∙ (rw z at y)))
 
       -- an edge of b has, mapped, the value that v gives it
-      mapped-value : (e : ℕ) → edge_value (value f.rows leaf) (mapped f.map e) ≡ edge_value v e
+      mapped_value : (e : ℕ) → edge_value (value f.rows leaf) (mapped f.map e) ≡ edge_value v e
       unfolding mapped v edge_value
-      mapped-value e = complementing.if_means (value f.rows leaf) (is_complemented e) (get_or f.map (id_of e) 0)
+      mapped_value e = complementing.if_means (value f.rows leaf) (is_complemented e) (get_or f.map (id_of e) 0)
 
       gates : (x : ℕ) → x < b.counts.rows → gate_at b.rows x ≡ true → v x ≡ edge_value v (word0 b.rows x) && edge_value v (word1 b.rows x)
       unfolding v frame_of
       gates x l g =
           gates_hold b.rows leaf b.counts.rows 0 b.counts.rows o (omega arith) ready.target.rows.some start_long sound (rows_room a b marks r) (inputs_room a b marks r) x
-          (omega arith) l g ∙ ap₂ ◌&&◌ (mapped-value (word0 b.rows x)) (mapped-value (word1 b.rows x))
+          (omega arith) l g ∙ ap₂ ◌&&◌ (mapped_value (word0 b.rows x)) (mapped_value (word1 b.rows x))
 
       obeys : Obeys b.rows b.counts.rows leaf' v
       unfolding v
@@ -390,7 +390,7 @@ module _ (a b : Lent) (marks : ℕ) (r : FrameRoom a b marks) where
 
       same_edge : (e : ℕ) → id_of e < b.counts.rows → edge_value (value f.rows leaf) (mapped f.map e) ≡ edge_value (value b.rows leaf') e
       unfolding edge_value
-      same_edge e l = mapped-value e ∙ rw (same_row (id_of e) l)
+      same_edge e l = mapped_value e ∙ rw (same_row (id_of e) l)
 
   held : (leaf : ℕ → Bool) → HoldsNexts a b f leaf (λ (x : ℕ). edge_value (value f.rows leaf) (get_or f.map x 0))
   unfolding v

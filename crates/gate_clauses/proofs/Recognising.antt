@@ -59,9 +59,9 @@ module _ (plain : Shape) (a b c d : ℕ) where
     unfolding recognised
     xor_first h = rw (← p, h)
 
-    pub then-ite : t ≡ false → {r : Shape} → r ≡ pairing plain a b c d → r ≡ recognised plain a b c d
+    pub then_ite : t ≡ false → {r : Shape} → r ≡ pairing plain a b c d → r ≡ recognised plain a b c d
     unfolding recognised
-    then-ite h e = e ∙ rw (← p, h)
+    then_ite h e = e ∙ rw (← p, h)
 
 -- ---- the shape of a gate
 module _ (shortcuts : Bool) (rows : List ℕ) (f g : ℕ) where
@@ -70,11 +70,11 @@ module _ (shortcuts : Bool) (rows : List ℕ) (f g : ℕ) where
   shape_off h = rw (not-true shortcuts h)
 
   module _ {s t u v : Bool} (ps : s ≡ is_complemented f) (pt : t ≡ gate_at rows (id_of f)) (pu : u ≡ is_complemented g) (pv : v ≡ gate_at rows (id_of g)) where
-    pub shape-plain : not ((s && t) && (u && v)) ≡ true → Plain f g ≡ shape_of shortcuts rows f g
+    pub shape_plain : not ((s && t) && (u && v)) ≡ true → Plain f g ≡ shape_of shortcuts rows f g
     unfolding shape_of
-    shape-plain h = rw (← ps, ← pt, ← pu, ← pv, not-true ((s && t) && (u && v)) h, and_false)
+    shape_plain h = rw (← ps, ← pt, ← pu, ← pv, not-true ((s && t) && (u && v)) h, and_false)
 
-    pub shape-inner : not shortcuts ≡ false → not ((s && t) && (u && v)) ≡ false → {r : Shape}
+    pub shape_inner : not shortcuts ≡ false → not ((s && t) && (u && v)) ≡ false → {r : Shape}
         → r ≡ recognised (Plain f g) (word0 rows (id_of f)) (word1 rows (id_of f)) (word0 rows (id_of g)) (word1 rows (id_of g)) → r ≡ shape_of shortcuts rows f g
     unfolding shape_of
-    shape-inner o h e = e ∙ rw (not-false shortcuts o, ← ps, ← pt, ← pu, ← pv, not-false ((s && t) && (u && v)) h)
+    shape_inner o h e = e ∙ rw (not-false shortcuts o, ← ps, ← pt, ← pu, ← pv, not-false ((s && t) && (u && v)) h)

@@ -76,12 +76,12 @@ module _ (rows : List ℕ) (used a b : ℕ) (x : State) (e : x ≡ add_and rows 
   and_most = rw e (and_sized rows used a b).most
 
   module _ {m n : ℕ} (p : m ≡ complement a) (q : n ≡ complement b) (y : State) (f : y ≡ add_and x.rows x.used m n) where
-    pub eq-most : y.used ≤ used + 2
-    eq-most = rw f (omega (arith, (and_sized x.rows x.used m n).most, and_most))
+    pub eq_most : y.used ≤ used + 2
+    eq_most = rw f (omega (arith, (and_sized x.rows x.used m n).most, and_most))
 
-    pub eq-built : list_of false true y.rows y.used (x.edge ∷ (y.edge ∷ [])) ≡ eq_of rows used a b
+    pub eq_built : list_of false true y.rows y.used (x.edge ∷ (y.edge ∷ [])) ≡ eq_of rows used a b
     unfolding eq_of
-    eq-built = rw (f, e, p, q)
+    eq_built = rw (f, e, p, q)
 
 pub eq_sized : (rows : List ℕ) (used a b : ℕ) → Sized rows used 4 (eq_of rows used a b)
 unfolding eq_of

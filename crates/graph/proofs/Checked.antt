@@ -70,13 +70,13 @@ module _ (g : Lent) where
   at_row e = stage_stops row_stage_lem (leaf_stages_lem ++ list_stages_lem) e
 
   module _ (rows : found row_stage_lem ≡ Nothing) where
-    pub at-leaves : eqb (first_fault leaf_stages_lem).number 0 ≡ false → contents g ≡ first_fault leaf_stages_lem
+    pub at_leaves : eqb (first_fault leaf_stages_lem).number 0 ≡ false → contents g ≡ first_fault leaf_stages_lem
     unfolding contents
-    at-leaves e = stage_goes row_stage_lem (leaf_stages_lem ++ list_stages_lem) rows ∙ join_stops list_stages_lem (leaf_entries g.rows g.inputs g.latches g.counts) e
+    at_leaves e = stage_goes row_stage_lem (leaf_stages_lem ++ list_stages_lem) rows ∙ join_stops list_stages_lem (leaf_entries g.rows g.inputs g.latches g.counts) e
 
-    pub at-lists : eqb (first_fault leaf_stages_lem).number 0 ≡ true → contents g ≡ first_fault list_stages_lem
+    pub at_lists : eqb (first_fault leaf_stages_lem).number 0 ≡ true → contents g ≡ first_fault list_stages_lem
     unfolding contents
-    at-lists e = stage_goes row_stage_lem (leaf_stages_lem ++ list_stages_lem) rows ∙ join_goes list_stages_lem (leaf_entries g.rows g.inputs g.latches g.counts) e
+    at_lists e = stage_goes row_stage_lem (leaf_stages_lem ++ list_stages_lem) rows ∙ join_goes list_stages_lem (leaf_entries g.rows g.inputs g.latches g.counts) e
 
 -- ---- the call
 module _ (g : Lent) (marks : List ℕ) where

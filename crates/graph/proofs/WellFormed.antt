@@ -112,44 +112,44 @@ module _ (g : Lent) (m : ℕ) (size : Sized g m) where
   -- the entry at j of the listed ids, which is free where it stands
   module _ (inputs : (i : ℕ) → i < n → good_input g.rows g.counts.rows g.inputs i ≡ true)
       (latches : (i : ℕ) → i < g.counts.latches → good_latch g.rows g.counts.rows (take n g.inputs) g.latches i ≡ true) where
-    input-free : (i : ℕ) → i < n → Free g.rows g.counts.rows (take i g.inputs) (get_or g.inputs i 0)
-    input-free i l = free g.rows g.counts.rows (take i g.inputs) (get_or g.inputs i 0) (inputs i l)
+    input_free : (i : ℕ) → i < n → Free g.rows g.counts.rows (take i g.inputs) (get_or g.inputs i 0)
+    input_free i l = free g.rows g.counts.rows (take i g.inputs) (get_or g.inputs i 0) (inputs i l)
 
-    latch-free : (i : ℕ) → i < g.counts.latches
+    latch_free : (i : ℕ) → i < g.counts.latches
         → Free g.rows g.counts.rows (take n g.inputs ++ latch_inputs g.latches i) (latch_at g.latches i).input × LatchEdges g.counts.rows (latch_at g.latches i)
-    latch-free i l =
+    latch_free i l =
         let t = both {a = free_leaf g.rows g.counts.rows (take n g.inputs ++ latch_inputs g.latches i) (latch_at g.latches i).input} (latches i l) in
         (free _ _ _ _ t.0, latch_edges_lem _ _ t.1)
 
     once : (i j : ℕ) → i < j → j < length (listed g) → get_or (listed g) i 0 ≡ get_or (listed g) j 0 → ⊥
-    once i j l h = ⊎_elim in-inputs in-latches (lt_or_le j n)
+    once i j l h = ⊎_elim in_inputs in_latches (lt_or_le j n)
       where
         long : length (listed g) ≡ n + g.counts.latches
         long = all_long g.inputs n g.latches g.counts.latches fit
 
-        in-inputs : j < n → get_or (listed g) i 0 ≡ get_or (listed g) j 0 → ⊥
-        in-inputs lt =
+        in_inputs : j < n → get_or (listed g) i 0 ≡ get_or (listed g) j 0 → ⊥
+        in_inputs lt =
             new_differs (listed g) j
-            (rw (input_at g.inputs n g.latches g.counts.latches fit j lt, input_before g.inputs n g.latches g.counts.latches fit j lt) (input-free j lt).new)
+            (rw (input_at g.inputs n g.latches g.counts.latches fit j lt, input_before g.inputs n g.latches g.counts.latches fit j lt) (input_free j lt).new)
             (omega arith) i l
 
-        in-latches : n ≤ j → get_or (listed g) i 0 ≡ get_or (listed g) j 0 → ⊥
-        in-latches le =
+        in_latches : n ≤ j → get_or (listed g) i 0 ≡ get_or (listed g) j 0 → ⊥
+        in_latches le =
             let q : j ≡ n + (j - n) = omega arith in
             let k : j - n < g.counts.latches = omega (arith, long) in
             new_differs (listed g) j
             (rw (q, latch_at_lem g.inputs n g.latches g.counts.latches fit (j - n) k, latch_before g.inputs n g.latches g.counts.latches fit (j - n) (omega arith))
-            (latch-free (j - n) k).0.new) (omega arith) i l
+            (latch_free (j - n) k).0.new) (omega arith) i l
 
   well_formed : AllClean (stages g) → WellFormed g
   well_formed (more rows (more inputs (more latches (more constraints (more bads (more outputs (more sets (more ends' (more edges (more fairness nothing)))))))))) =
       record {
         rows = rows;
-        inputs = λ i l. ((input-free inputs latches i l).used_row_lem, (input-free inputs latches i l).leaf);
-        latches = λ i l. ((latch-free inputs latches i l).0.used_row_lem, (latch-free inputs latches i l).0.leaf);
+        inputs = λ i l. ((input_free inputs latches i l).used_row_lem, (input_free inputs latches i l).leaf);
+        latches = λ i l. ((latch_free inputs latches i l).0.used_row_lem, (latch_free inputs latches i l).0.leaf);
         once = once inputs latches;
-        nexts = λ i l. (latch-free inputs latches i l).1.next;
-        inits = λ i l. (latch-free inputs latches i l).1.init;
+        nexts = λ i l. (latch_free inputs latches i l).1.next;
+        inits = λ i l. (latch_free inputs latches i l).1.init;
         constraints = edges_used g g.constraints g.counts.constraints constraints;
         bads = edges_used g g.bads g.counts.bads bads;
         outputs = edges_used g g.outputs g.counts.outputs outputs;
@@ -169,7 +169,7 @@ module _ (g : Lent) (m : ℕ) (size : Sized g m) where
   pub all_clean : WellFormed g → AllClean (stages g)
   all_clean w =
       more w.rows
-      (more input-good
+      (more input_good
       (more latches_good
       (more (edges_good g g.constraints g.counts.constraints w.constraints)
       (more (edges_good g g.bads g.counts.bads w.bads)
@@ -186,8 +186,8 @@ module _ (g : Lent) (m : ℕ) (size : Sized g m) where
       long : length (listed g) ≡ n + g.counts.latches
       long = all_long g.inputs n g.latches g.counts.latches fit
 
-      input-good : (i : ℕ) → i < n → good_input g.rows g.counts.rows g.inputs i ≡ true
-      input-good i l =
+      input_good : (i : ℕ) → i < n → good_input g.rows g.counts.rows g.inputs i ≡ true
+      input_good i l =
           let new = differs_new (listed g) i (omega (arith, long)) (λ k lt. w.once k i lt (omega (arith, long))) in
           is_free g.rows g.counts.rows (take i g.inputs) (get_or g.inputs i 0) (w.inputs i l).0 (w.inputs i l).1
           (rw (input_at g.inputs n g.latches g.counts.latches fit i l, input_before g.inputs n g.latches g.counts.latches fit i l) at new)
@@ -226,25 +226,25 @@ module _ (g : Lent) (marks : List ℕ) where
   unfolding check_call contents
   judgement = go (sizes_right g (length marks)) refl
     where
-      in-sized : Sized g (length marks) → AllClean (stages g) ⊎ Names (stages g) (first_fault (stages g)) → Judged g marks (first_fault (stages g))
-      in-sized s (inl all) = rw (clean_done all) (sound s (well_formed g (length marks) s all))
-      in-sized s (inr names) = faulty s (λ w. not-both names (clean_done (all_clean g (length marks) s w))) names
+      in_sized : Sized g (length marks) → AllClean (stages g) ⊎ Names (stages g) (first_fault (stages g)) → Judged g marks (first_fault (stages g))
+      in_sized s (inl all) = rw (clean_done all) (sound s (well_formed g (length marks) s all))
+      in_sized s (inr names) = faulty s (λ w. not_both names (clean_done (all_clean g (length marks) s w))) names
         where
-          not-both : {p : Given} → Names (stages g) p → p ≡ done → ⊥
-          not-both names e = ⊎_elim (λ t. no-two (sym t.0 ∙ number e)) (λ t. no-three (sym t.0 ∙ number e)) (row_or_entry g names)
+          not_both : {p : Given} → Names (stages g) p → p ≡ done → ⊥
+          not_both names e = ⊎_elim (λ t. no_two (sym t.0 ∙ number e)) (λ t. no_three (sym t.0 ∙ number e)) (row_or_entry g names)
             where
               number : {p q : Given} → p ≡ q → p.number ≡ q.number
               number e = ap (λ (x : Given). x.number) e
 
-              no-two : ◌≡◌ {A = ℕ} 2 0 → ⊥
-              no-two e = omega arith
+              no_two : ◌≡◌ {A = ℕ} 2 0 → ⊥
+              no_two e = omega arith
 
-              no-three : ◌≡◌ {A = ℕ} 3 0 → ⊥
-              no-three e = omega arith
+              no_three : ◌≡◌ {A = ℕ} 3 0 → ⊥
+              no_three e = omega arith
 
       go : (t : Bool) → sizes_right g (length marks) ≡ t
           → Judged g marks (cond {A = CheckSeen} t (record { given = first_fault (stages g); marks = cleared g.counts.rows marks }) (record { given = bad_sizes; marks = marks })).given
-      go true e = in-sized (sized g (length marks) e) (judged (stages g))
+      go true e = in_sized (sized g (length marks) e) (judged (stages g))
       go false e = unsized (λ s. false_true (sym e ∙ sizes_true g (length marks) s))
 
   -- no stage answers 1

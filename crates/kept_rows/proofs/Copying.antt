@@ -49,8 +49,8 @@ module _ (p : ℕ → Bool) (put : List ℕ → ℕ → ℕ → List ℕ) (out :
 
   -- there is room for thing i, where there is for all that are kept
   module _ (i n : ℕ) {now : List ℕ} {k : ℕ} (h : Keeping p put out i now k) (l : i < n) (t : p i ≡ true) where
-    pub keep-room : k < count_below p n
-    keep-room = rw h.count (count_past p n i l t)
+    pub keep_room : k < count_below p n
+    keep_room = rw h.count (count_past p n i l t)
 
   pub keep_end : (n i : ℕ) {now : List ℕ} {k : ℕ} → Keeping p put out i now k → i ≤ n → n ≤ i → now ≡ kept_written p put out n
   keep_end n i h a b = let e : n ≡ i = omega arith in rw e h.is

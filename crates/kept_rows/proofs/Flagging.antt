@@ -73,14 +73,14 @@ module _ (rows latches constraints bads outputs edges fairness : List ℕ) (n : 
       pub two_long : length two ≡ n.rows
       two_long = ap length q ∙ (edges_long roots one ∙ one_long)
 
-      pub three-long : {three : List ℕ} → three ≡ mark_edges (input_edges latches n.latches) two → length three ≡ n.rows
-      three-long s = ap length s ∙ (edges_long (input_edges latches n.latches) two ∙ two_long)
+      pub three_long : {three : List ℕ} → three ≡ mark_edges (input_edges latches n.latches) two → length three ≡ n.rows
+      three_long s = ap length s ∙ (edges_long (input_edges latches n.latches) two ∙ two_long)
 
-      pub kept-flagged : {three four : List ℕ} → three ≡ mark_edges (input_edges latches n.latches) two → four ≡ mark_below rows (length three) three
+      pub kept_flagged : {three four : List ℕ} → three ≡ mark_edges (input_edges latches n.latches) two → four ≡ mark_below rows (length three) three
           → four ≡ kept_cone rows latches constraints bads outputs edges fairness n
       unfolding cone_of mark_edges
-      kept-flagged {three} {four} s t =
-          let l : length three ≡ n.rows = three-long s in
+      kept_flagged {three} {four} s t =
+          let l : length three ≡ n.rows = three_long s in
           let start : one ≡ set (replicate n.rows 0) 0 1 = p ∙ ap (λ (x : List ℕ). set x 0 1) r.zeros in
           let all : three ≡ mark_edges (roots ++ input_edges latches n.latches) (set (replicate n.rows 0) 0 1)
           = s ∙ (ap (mark_edges (input_edges latches n.latches)) (q ∙ ap (mark_edges roots) start) ∙ sym (edges_both roots (input_edges latches n.latches) (set (replicate n.rows 0) 0 1))) in

@@ -155,8 +155,8 @@ module _ (g : Lent) (marks : ℕ) (s : Sized g marks) (w : WellFormed g) where
 
   -- where an id of the roots comes from: an edge that is a root, or a latch's input
   data From (x : ℕ) : Type 0 where
-    by-edge : (e : ℕ) → On e (roots_of g) → id_of e ≡ x → From x
-    by-input : (k : ℕ) → k < n → x ≡ (latch_at g.latches k).input → From x
+    by_edge : (e : ℕ) → On e (roots_of g) → id_of e ≡ x → From x
+    by_input : (k : ℕ) → k < n → x ≡ (latch_at g.latches k).input → From x
 
   from : (x : ℕ) → On x (refine_roots g) → From x
   unfolding refine_roots
@@ -166,19 +166,19 @@ module _ (g : Lent) (marks : ℕ) (s : Sized g marks) (w : WellFormed g) where
       edge m =
           let t = Memᴰ.of_map id_of (list_roots g ++ init_roots g.latches n) m in
           ⊎_elim
-          (λ (h : On t.0 (list_roots g)). by-edge t.0 (Memᴰ.append_right (latch_roots g.latches n) h) t.2)
-          (λ (h : On t.0 (init_roots g.latches n)). by-edge t.0 (Memᴰ.append_left (list_roots g) (init_is_root t.0 h)) t.2)
+          (λ (h : On t.0 (list_roots g)). by_edge t.0 (Memᴰ.append_right (latch_roots g.latches n) h) t.2)
+          (λ (h : On t.0 (init_roots g.latches n)). by_edge t.0 (Memᴰ.append_left (list_roots g) (init_is_root t.0 h)) t.2)
           (Memᴰ.append_cases (list_roots g) t.1)
 
       input : On x (latch_inputs g.latches n) → From x
-      input m = let p = on_inputs g.latches x n m in by-input p.at p.within (Memᴰ.eq_of_singleton p.on)
+      input m = let p = on_inputs g.latches x n m in by_input p.at p.within (Memᴰ.eq_of_singleton p.on)
 
   pub ids_used : every (used_row used) (refine_roots g) ≡ true
   ids_used = at_every (used_row used) (refine_roots g) (λ k l. lt-ltb _ _ (below (get_or (refine_roots g) k 0) (from (get_or (refine_roots g) k 0) (on_at (refine_roots g) k l))))
     where
       below : (x : ℕ) → From x → x < used
-      below x (by-edge e o q) = rw (← q) (root_used e o)
-      below x (by-input k l q) = rw q (w.latches k l).0
+      below x (by_edge e o q) = rw (← q) (root_used e o)
+      below x (by_input k l q) = rw q (w.latches k l).0
 
   pub kept_coi : IsCoi g (refine_roots g) (kept_flags g)
   unfolding kept_flags
@@ -212,12 +212,12 @@ module _ (g : Lent) (marks : ℕ) (s : Sized g marks) (w : WellFormed g) where
   edge_reached : (e : ℕ) → On e edges → Reach (id_of e)
   edge_reached e o = ⊎_elim (λ (q : e ≡ 0). rw q always) (λ (m : On e (roots_of g ++ input_edges g.latches n)). ⊎_elim roots inputs (Memᴰ.append_cases (roots_of g) m)) (Memᴰ.cases_cons o)
     where
-      by-latch : (k : ℕ) → k < n → (e ≡ (latch_at g.latches k).next) ⊎ ((e ≡ (latch_at g.latches k).init) × ((latch_at g.latches k).init ≡ none → ⊥)) → Reach (id_of e)
-      by-latch k l (inl q) = rw q (latch k l (input_reached k l))
-      by-latch k l (inr q) = rw q.0 (init_reached k l q.1)
+      by_latch : (k : ℕ) → k < n → (e ≡ (latch_at g.latches k).next) ⊎ ((e ≡ (latch_at g.latches k).init) × ((latch_at g.latches k).init ≡ none → ⊥)) → Reach (id_of e)
+      by_latch k l (inl q) = rw q (latch k l (input_reached k l))
+      by_latch k l (inr q) = rw q.0 (init_reached k l q.1)
 
       latches : On e (latch_roots g.latches n) → Reach (id_of e)
-      latches m = let p = on_roots g.latches e n m in by-latch p.at p.within (latch_root_lem (latch_at g.latches p.at) e p.on)
+      latches m = let p = on_roots g.latches e n m in by_latch p.at p.within (latch_root_lem (latch_at g.latches p.at) e p.on)
 
       roots : On e (roots_of g) → Reach (id_of e)
       roots m = ⊎_elim latches (λ (h : On e (list_roots g)). edge_on e (Memᴰ.append_left (init_roots g.latches n) h)) (Memᴰ.append_cases (latch_roots g.latches n) m)
@@ -240,29 +240,29 @@ module _ (g : Lent) (marks : ℕ) (s : Sized g marks) (w : WellFormed g) where
     cone : IsCone g.rows used edges (kept_cone_of g)
     cone = is_kept_cone g.rows g.latches g.constraints g.bads g.outputs g.edges g.fairness g.counts zeros ready
 
-    edge-flagged : (e : ℕ) → On e edges → Flagged (kept_cone_of g) (id_of e)
-    edge-flagged e o = let p = place edges o in rw (← p.same) (cone.reached (id_of (get_or edges p.at 0)) (record { root = p.at; within = p.within; path = here }))
+    edge_flagged : (e : ℕ) → On e edges → Flagged (kept_cone_of g) (id_of e)
+    edge_flagged e o = let p = place edges o in rw (← p.same) (cone.reached (id_of (get_or edges p.at 0)) (record { root = p.at; within = p.within; path = here }))
 
-    root-flagged : (e : ℕ) → On e (roots_of g) → Flagged (kept_cone_of g) (id_of e)
-    root-flagged e o = edge-flagged e (Memᴰ.tail (Memᴰ.append_left (input_edges g.latches n) o))
+    root_flagged : (e : ℕ) → On e (roots_of g) → Flagged (kept_cone_of g) (id_of e)
+    root_flagged e o = edge_flagged e (Memᴰ.tail (Memᴰ.append_left (input_edges g.latches n) o))
 
-    input-flagged : (k : ℕ) → k < n → Flagged (kept_cone_of g) (latch_at g.latches k).input
-    input-flagged k l =
+    input_flagged : (k : ℕ) → k < n → Flagged (kept_cone_of g) (latch_at g.latches k).input
+    input_flagged k l =
         let h : 2 * (latch_at g.latches k).input / 2 ≡ (latch_at g.latches k).input = omega arith in
-        let f = edge-flagged (2 * (latch_at g.latches k).input)
+        let f = edge_flagged (2 * (latch_at g.latches k).input)
         (Memᴰ.tail (Memᴰ.append_right (roots_of g) (input_edges_on g.latches (2 * (latch_at g.latches k).input) n k l (Memᴰ.head refl)))) in
         rw h at f
 
     flagged : {x : ℕ} → Reach x → Flagged (kept_cone_of g) x
-    flagged always = edge-flagged 0 (Memᴰ.head refl)
+    flagged always = edge_flagged 0 (Memᴰ.head refl)
     flagged (root k l) = by (from (get_or (refine_roots g) k 0) (on_at (refine_roots g) k l))
       where
         by : {x : ℕ} → From x → Flagged (kept_cone_of g) x
-        by (by-edge e o q) = rw (← q) (root-flagged e o)
-        by (by-input j m q) = rw q (input-flagged j m)
+        by (by_edge e o q) = rw (← q) (root_flagged e o)
+        by (by_input j m q) = rw q (input_flagged j m)
     flagged (left {i} r h) = (cone.closed i (flagged r) h).0
     flagged (right {i} r h) = (cone.closed i (flagged r) h).1
-    flagged (latch k l r) = root-flagged (latch_at g.latches k).next (Memᴰ.append_left (list_roots g) (roots_on g.latches (latch_at g.latches k).next n k l (next_on (latch_at g.latches k))))
+    flagged (latch k l r) = root_flagged (latch_at g.latches k).next (Memᴰ.append_left (list_roots g) (roots_on g.latches (latch_at g.latches k).next n k l (next_on (latch_at g.latches k))))
 
     -- the kept rows are those that `coi` flags from the roots
     pub kept_is : kept_cone_of g ≡ kept_flags g

@@ -25,12 +25,12 @@ module _ (rows latches constraints bads outputs edges fairness : List ℕ) (n : 
     flags_long : length flags ≡ n.rows
     flags_long = ap length p ∙ (cone_flags rows latches constraints bads outputs edges fairness n marks r).long
 
-    pub number-needs : (length flags ≤ max_rows) × Flags (length flags) flags
-    number-needs = (omega (arith, flags_long, r.small), rw flags_long (rw p (cone_flags rows latches constraints bads outputs edges fairness n marks r)))
+    pub number_needs : (length flags ≤ max_rows) × Flags (length flags) flags
+    number_needs = (omega (arith, flags_long, r.small), rw flags_long (rw p (cone_flags rows latches constraints bads outputs edges fairness n marks r)))
 
     module _ {ids : List ℕ} (q : ids ≡ new_ids flags) where
-      pub ids-are : ids ≡ new_ids cone
-      ids-are = q ∙ ap new_ids p
+      pub ids_are : ids ≡ new_ids cone
+      ids_are = q ∙ ap new_ids p
 
       first : Flagged flags 0
       first = rw p (cone_zero rows latches constraints bads outputs edges fairness n marks r)
@@ -39,8 +39,8 @@ module _ (rows latches constraints bads outputs edges fairness : List ℕ) (n : 
       numbers_long = ap length q ∙ (ids_long flags first ∙ (flags_long ∙ sym (marks_long rows latches constraints bads outputs edges fairness n marks r)))
 
       module _ (inputs : List ℕ) (there : IdsThere marks inputs n.inputs) where
-        pub still-there : IdsThere ids inputs n.inputs
-        still-there = record { has = there.has; there = λ j l. rw numbers_long (there.there j l) }
+        pub still_there : IdsThere ids inputs n.inputs
+        still_there = record { has = there.has; there = λ j l. rw numbers_long (there.there j l) }
 
         pub counted :
             {k j : ℕ} {s : Counts} → k ≡ count_below (kept_row flags) (length flags) → j ≡ count_below (kept_input (numbered ids) inputs) n.inputs → s ≡ with_kept k j n → s ≡ kept_counts cone

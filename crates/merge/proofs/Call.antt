@@ -71,9 +71,9 @@ module _ (a b : Lent) (marks : List ℕ) where
     kept : after ≡ (check_two_call a b marks).marks
     kept = ap (λ (s : CheckSeen). s.marks) seen
 
-    pub check-stops : not d ≡ true → check_seen r after ≡ merge_checked a b marks
+    pub check_stops : not d ≡ true → check_seen r after ≡ merge_checked a b marks
     unfolding merge_checked
-    check-stops h =
+    check_stops h =
         rw (stops_here (check_two_call a b marks).given (cond fits done no_room) (eqb-false (check_two_call a b marks).given.number 0 (test_refused given test h)), given, kept)
 
     module _ (h : not d ≡ false) where
@@ -83,18 +83,18 @@ module _ (a b : Lent) (marks : List ℕ) where
       right : SizedTwo a b (length marks) × WellFormed a × WellFormed b
       right = (exact_two a b marks).accepted passed
 
-      pub both-addable : Addable a.counts × Addable b.counts
-      both-addable = (addable a (length marks) right.0.first, addable b (length marks) right.0.second)
+      pub both_addable : Addable a.counts × Addable b.counts
+      both_addable = (addable a (length marks) right.0.first, addable b (length marks) right.0.second)
 
-      pub check-room : fits ≡ true → check_seen r after ≡ merge_checked a b marks
+      pub check_room : fits ≡ true → check_seen r after ≡ merge_checked a b marks
       unfolding merge_checked
-      check-room e =
+      check_room e =
           let t = given ∙ (exact_two a b marks).accepts right.0 right.1 right.2 in
           rw (goes_past (check_two_call a b marks).given (cond fits done no_room) passed, e, t, kept)
 
-      pub check-full : fits ≡ false → check_seen NoRoom after ≡ merge_checked a b marks
+      pub check_full : fits ≡ false → check_seen NoRoom after ≡ merge_checked a b marks
       unfolding merge_checked
-      check-full e = rw (goes_past (check_two_call a b marks).given (cond fits done no_room) passed, e, kept)
+      check_full e = rw (goes_past (check_two_call a b marks).given (cond fits done no_room) passed, e, kept)
 
   -- ---- the call: r is what the check answers
   module _ (r : Answer) {after : List ℕ} (seen : check_seen r after ≡ merge_checked a b marks) {d : Bool} (test : d ≡ eqb (told r).number 0) where
@@ -107,9 +107,9 @@ module _ (a b : Lent) (marks : List ℕ) where
     abbrev rebuilt : Counts → Rebuilt
     rebuilt n = record { answer = r; counts = n }
 
-    pub merge-refused : not d ≡ true → rebuilt_seen (rebuilt a.counts) a after ≡ merge_call a b marks
+    pub merge_refused : not d ≡ true → rebuilt_seen (rebuilt a.counts) a after ≡ merge_call a b marks
     unfolding merge_call
-    merge-refused h = rw (test_refused told_so test h, told_so, left)
+    merge_refused h = rw (test_refused told_so test h, told_so, left)
 
     module _ (h : not d ≡ false) where
       is_done : eqb (merge_checked a b marks).given.number 0 ≡ true
@@ -121,6 +121,6 @@ module _ (a b : Lent) (marks : List ℕ) where
       pub ready : {n : ℕ} → length marks ≡ n → MergeLent a b n
       ready e = rw e at (merge_accepted free)
 
-      pub merge-done : (n : Counts) {g : Lent} {last : List ℕ} → g ≡ merged a b → last ≡ cleared b.counts.rows after → rebuilt_seen (rebuilt n) g last ≡ merge_call a b marks
+      pub merge_done : (n : Counts) {g : Lent} {last : List ℕ} → g ≡ merged a b → last ≡ cleared b.counts.rows after → rebuilt_seen (rebuilt n) g last ≡ merge_call a b marks
       unfolding merge_call
-      merge-done n e w = rw (is_done, told_so, e, w ∙ (ap (cleared b.counts.rows) left ∙ still_clear free))
+      merge_done n e w = rw (is_done, told_so, e, w ∙ (ap (cleared b.counts.rows) left ∙ still_clear free))

@@ -38,16 +38,16 @@ renamed_none m = refl
 -- ---- listed ids
 -- each is a used leaf
 listed_leaf : (g : Lent) (marks : ℕ) → Sized g marks → WellFormed g → (k : ℕ) → k < length (listed g) → UsedLeaf g (get_or (listed g) k 0)
-listed_leaf g marks s w k l = ⊎_elim in-inputs in-latches (lt_or_le k g.counts.inputs)
+listed_leaf g marks s w k l = ⊎_elim in_inputs in_latches (lt_or_le k g.counts.inputs)
   where
     long : length (listed g) ≡ g.counts.inputs + g.counts.latches
     long = all_long g.inputs g.counts.inputs g.latches g.counts.latches s.inputs.within
 
-    in-inputs : k < g.counts.inputs → UsedLeaf g (get_or (listed g) k 0)
-    in-inputs h = rw (input_at g.inputs g.counts.inputs g.latches g.counts.latches s.inputs.within k h) (w.inputs k h)
+    in_inputs : k < g.counts.inputs → UsedLeaf g (get_or (listed g) k 0)
+    in_inputs h = rw (input_at g.inputs g.counts.inputs g.latches g.counts.latches s.inputs.within k h) (w.inputs k h)
 
-    in-latches : g.counts.inputs ≤ k → UsedLeaf g (get_or (listed g) k 0)
-    in-latches h =
+    in_latches : g.counts.inputs ≤ k → UsedLeaf g (get_or (listed g) k 0)
+    in_latches h =
         let e : k ≡ g.counts.inputs + (k - g.counts.inputs) = omega arith in
         let i : k - g.counts.inputs < g.counts.latches = omega (arith, long) in
         rw (ap (λ (x : ℕ). get_or (listed g) x 0) e ∙ latch_at_lem g.inputs g.counts.inputs g.latches g.counts.latches s.inputs.within (k - g.counts.inputs) i)

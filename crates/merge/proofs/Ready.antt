@@ -24,7 +24,7 @@ use Rattle.renumber.specs.Steps.{IdsReady, ListsReady}
 use Rattle.renumber.specs.Steps.{MarksHold, Small, ListsRoom}
 use Rattle.output.specs.Room.{Room}
 use Rattle.output.proofs.Writing.{written_turn, written_same, written_at_lem, written_drop}
-use Rattle.renumber.proofs.Mapping.{lists_used, renumber_by, known, lists-ready}
+use Rattle.renumber.proofs.Mapping.{lists_used, renumber_by, known, lists_ready}
 use Rattle.renumber.proofs.Rowing.{Reaches, words_reach}
 use Rattle.merge.specs.Merge.{shifted, offset, summed, merged, MergeLent}
 use Rattle.merge.specs.Steps.{Addable, Movable, RowsReady}
@@ -97,8 +97,8 @@ module _ (n e : ℕ) where
     unfolding renamed shifted
     moved_on = let t = moves h in rw (t.1, ne_eqb (id_of e) 0 (λ (z : id_of e ≡ 0). absurd (omega (arith, t.0)))) (omega arith)
 
-    pub moved-small : Movable n e → id_of e + n ≤ max_rows
-    moved-small m = m (eqb-false e none (moves h).1)
+    pub moved_small : Movable n e → id_of e + n ≤ max_rows
+    moved_small m = m (eqb-false e none (moves h).1)
 
 -- ---- the map
 -- a turn of the loop that fills it in
@@ -153,13 +153,13 @@ module _ (a b : Lent) (marks : ℕ) (l : MergeLent a b marks) where
       }
 
   module _ (map : List ℕ) (h : MarksHold used m map) where
-    pub inputs-by : written a.inputs a.counts.inputs (ids_of (by map) b.inputs) b.counts.inputs ≡ written a.inputs a.counts.inputs (ids_of m b.inputs) b.counts.inputs
-    inputs-by =
+    pub inputs_by : written a.inputs a.counts.inputs (ids_of (by map) b.inputs) b.counts.inputs ≡ written a.inputs a.counts.inputs (ids_of m b.inputs) b.counts.inputs
+    inputs_by =
         written_same a.inputs a.counts.inputs (ids_of (by map) b.inputs) (ids_of m b.inputs) b.counts.inputs
         (λ j k. h (get_or b.inputs j 0) (l.second.inputs j k).0)
 
-    pub lists-by : renumber (by map) (lists_of a) a.counts (lists_of b) b.counts ≡ renumber m (lists_of a) a.counts (lists_of b) b.counts
-    lists-by = renumber_by used m map h (lists_of a) a.counts (lists_of b) b.counts (lists_used b marks l.sized.second l.second)
+    pub lists_by : renumber (by map) (lists_of a) a.counts (lists_of b) b.counts ≡ renumber m (lists_of a) a.counts (lists_of b) b.counts
+    lists_by = renumber_by used m map h (lists_of a) a.counts (lists_of b) b.counts (lists_used b marks l.sized.second l.second)
 
     module _ (long : used ≤ length map) where
       pub inputs_ready : IdsReady map a.inputs a.counts.inputs b.inputs b.counts.inputs
@@ -172,7 +172,7 @@ module _ (a b : Lent) (marks : ℕ) (l : MergeLent a b marks) where
 
       pub all_ready : ListsReady map (lists_of a) a.counts (lists_of b) b.counts
       all_ready =
-          lists-ready used m map h small long (lists_of a) a.counts (lists_of b) b.counts (lists_used b marks l.sized.second l.second)
+          lists_ready used m map h small long (lists_of a) a.counts (lists_of b) b.counts (lists_used b marks l.sized.second l.second)
           (lists_room a b.counts l.room)
           (omega (arith, l.sized.first.edges.within, l.sized.first.edges.limited))
 
@@ -183,4 +183,4 @@ module _ (a b : Lent) (marks : ℕ) (l : MergeLent a b marks) where
       → ls ≡ renumber (by map) (lists_of a) a.counts (lists_of b) b.counts
       → graph_of rows inputs ls (summed a.counts b.counts) ≡ merged a b
   unfolding merged
-  whole map h p q r = rw (p, q ∙ inputs-by map h, r ∙ lists-by map h)
+  whole map h p q r = rw (p, q ∙ inputs_by map h, r ∙ lists_by map h)

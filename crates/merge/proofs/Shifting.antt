@@ -142,14 +142,14 @@ module _ (a b : Lent) (marks : ℕ) (l : MergeLent a b marks) where
       ∙ ap (renamed m) (get_or-drop 2 b.rows k 0)
 
   module _ (i : ℕ) (p : 0 < i) (h : i < used) where
-    word-0 : word0 rows (m i) ≡ renamed m (word0 b.rows i)
-    word-0 =
+    word_0 : word0 rows (m i) ≡ renamed m (word0 b.rows i)
+    word_0 =
         let e : 2 * m i ≡ 2 * a.counts.rows + (2 * i - 2) = omega (arith, shifted_some (offset a) i p, some) in
         let q : 2 + (2 * i - 2) ≡ 2 * i = omega arith in
         ap (λ (k : ℕ). get_or rows k 0) e ∙ (second_word (2 * i - 2) (omega arith) ∙ ap (λ (k : ℕ). renamed m (get_or b.rows k 0)) q)
 
-    word-1 : word1 rows (m i) ≡ renamed m (word1 b.rows i)
-    word-1 =
+    word_1 : word1 rows (m i) ≡ renamed m (word1 b.rows i)
+    word_1 =
         let e : 2 * m i + 1 ≡ 2 * a.counts.rows + (2 * i - 1) = omega (arith, shifted_some (offset a) i p, some) in
         let q : 2 + (2 * i - 1) ≡ 2 * i + 1 = omega arith in
         ap (λ (k : ℕ). get_or rows k 0) e ∙ (second_word (2 * i - 1) (omega arith) ∙ ap (λ (k : ℕ). renamed m (get_or b.rows k 0)) q)
@@ -158,12 +158,12 @@ module _ (a b : Lent) (marks : ℕ) (l : MergeLent a b marks) where
   pub second_leaf : (i : ℕ) → i < used → leaf_at b.rows i ≡ true → leaf_at rows (m i) ≡ true
   second_leaf i h g =
       let p = leaf_some i (word0 b.rows i) (word1 b.rows i) g in
-      ap₂ (is_leaf (m i)) (word-0 i p h) (word-1 i p h) ∙ leaf_shifted (offset a) i (word0 b.rows i) (word1 b.rows i) g
+      ap₂ (is_leaf (m i)) (word_0 i p h) (word_1 i p h) ∙ leaf_shifted (offset a) i (word0 b.rows i) (word1 b.rows i) g
 
   second_gate : (i : ℕ) → i < used → gate_at b.rows i ≡ true → gate_at rows (m i) ≡ true
   second_gate i h g =
       let p = gate_some i (word0 b.rows i) (word1 b.rows i) g in
-      ap₂ (is_gate (m i)) (word-0 i p h) (word-1 i p h) ∙ gate_shifted (offset a) i (word0 b.rows i) (word1 b.rows i) (omega (arith, few_second)) g
+      ap₂ (is_gate (m i)) (word_0 i p h) (word_1 i p h) ∙ gate_shifted (offset a) i (word0 b.rows i) (word1 b.rows i) (omega (arith, few_second)) g
 
   pub carried : Carried m (UsedRow b) b.rows used rows (merged a b).counts.rows
   carried =
@@ -171,7 +171,7 @@ module _ (a b : Lent) (marks : ℕ) (l : MergeLent a b marks) where
         zero = shifted_zero (offset a);
         within = λ i h k. within i h;
         leaves = λ i h k g. second_leaf i h g;
-        gates = λ i h k g. let p = gate_some i (word0 b.rows i) (word1 b.rows i) g in (second_gate i h g, inl (word-0 i p h, word-1 i p h));
+        gates = λ i h k g. let p = gate_some i (word0 b.rows i) (word1 b.rows i) g in (second_gate i h g, inl (word_0 i p h, word_1 i p h));
         fanins = λ i h k g. let t = gate_below i (word0 b.rows i) (word1 b.rows i) g in (omega (arith, t.0), omega (arith, t.1));
       }
 

@@ -71,24 +71,24 @@ module _ (limits room : Bool) (g : Lent) (marks : List ℕ) where
     kept : after ≡ (check_call g marks).marks
     kept = ap (λ (s : CheckSeen). s.marks) seen
 
-    pub check-stops : not d ≡ true → check_seen r after ≡ change_checked limits room g marks
+    pub check_stops : not d ≡ true → check_seen r after ≡ change_checked limits room g marks
     unfolding change_checked
-    check-stops h =
+    check_stops h =
         rw (within, stops_here (check_call g marks).given last (eqb-false (check_call g marks).given.number 0 (test_refused given test h)), given, kept)
 
     module _ (h : not d ≡ false) where
       passed : (check_call g marks).given.number ≡ 0
       passed = eqb-true (check_call g marks).given.number 0 (test_done given test h)
 
-      pub check-right : Sized g (length marks) × WellFormed g
-      check-right = (exact g marks).accepted passed
+      pub check_right : Sized g (length marks) × WellFormed g
+      check_right = (exact g marks).accepted passed
 
-      pub check-room : room ≡ true → check_seen r after ≡ change_checked limits room g marks
+      pub check_room : room ≡ true → check_seen r after ≡ change_checked limits room g marks
       unfolding change_checked
-      check-room e =
-          let t = given ∙ (exact g marks).accepts check-right.0 check-right.1 in
+      check_room e =
+          let t = given ∙ (exact g marks).accepts check_right.0 check_right.1 in
           rw (within, goes_past (check_call g marks).given last passed, e, t, kept)
 
-      pub check-full : room ≡ false → check_seen NoRoom after ≡ change_checked limits room g marks
+      pub check_full : room ≡ false → check_seen NoRoom after ≡ change_checked limits room g marks
       unfolding change_checked
-      check-full e = rw (within, goes_past (check_call g marks).given last passed, e, kept)
+      check_full e = rw (within, goes_past (check_call g marks).given last passed, e, kept)

@@ -74,24 +74,24 @@ module _ (g : Lent) (old marks : List ℕ) where
     abbrev rebuilt : Counts → Rebuilt
     rebuilt n = record { answer = r; counts = n }
 
-    pub compress-refused : not d ≡ true → listed_seen (rebuilt g.counts) g old after ≡ compress_call g old marks
+    pub compress_refused : not d ≡ true → listed_seen (rebuilt g.counts) g old after ≡ compress_call g old marks
     unfolding compress_call
-    compress-refused h = rw (test_refused told_so test h, told_so, left)
+    compress_refused h = rw (test_refused told_so test h, told_so, left)
 
     module _ (h : not d ≡ false) where
       is_done : eqb (compress_checked g old marks).given.number 0 ≡ true
       is_done = test_done told_so test h
 
-      pub compress-ready : CompressReady g.counts.rows g.bads g.counts.bads old
-      compress-ready =
+      pub compress_ready : CompressReady g.counts.rows g.bads g.counts.bads old
+      compress_ready =
           let l = lent_right g old (length marks) (compress_accepted (eqb-true (compress_checked g old marks).given.number 0 is_done)) in
           record { or = or_ready g (length marks) l.sized; copy = record { room = l.back; has = l.sized.bads.within }; one = l.one }
 
-      pub compress-done : (rows bads back : List ℕ) (used : ℕ) {n : Counts} → Compressing g.rows g.counts.rows g.bads g.counts.bads old rows bads back used
+      pub compress_done : (rows bads back : List ℕ) (used : ℕ) {n : Counts} → Compressing g.rows g.counts.rows g.bads g.counts.bads old rows bads back used
           → n ≡ one_bad g.counts used
           → listed_seen (rebuilt n) (lent rows g.inputs g.latches g.constraints bads g.outputs g.ends g.edges g.fairness n) back after ≡ compress_call g old marks
       unfolding compress_call compressed or_of
-      compress-done rows bads back used {n} c e =
+      compress_done rows bads back used {n} c e =
           let s : state rows used c.edge ≡ list_of false true g.rows g.counts.rows (bads_of g) = c.built in
           let x : rows ≡ (list_of false true g.rows g.counts.rows (bads_of g)).rows = ap (λ (t : State). t.rows) s in
           let y : used ≡ (list_of false true g.rows g.counts.rows (bads_of g)).used = ap (λ (t : State). t.used) s in

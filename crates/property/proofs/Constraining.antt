@@ -44,17 +44,17 @@ module _ (p : Part) where
       (record { used = refl; count = refl }) p.counts.latches
 
   module _ {u k : ℕ} (e : (u ≡ dry.used) × (k ≡ dry.count)) where
-    pub gate-room : {t : Bool}
+    pub gate_room_lem : {t : Bool}
         → eqb k p.counts.constraints || (leb u (rows_lent p.rows) && ltb p.counts.latches (latches_lent p.latches) && leb k (length p.constraints)) ≡ t
         → gate_room p ≡ t
     unfolding gate_room
-    gate-room h = rw (← alike.used, ← e.0, ← alike.count, ← e.1) h
+    gate_room_lem h = rw (← alike.used, ← e.0, ← alike.count, ← e.1) h
 
   -- d says whether there is such a latch
   module _ {d : Bool} (e : d ≡ any_gated p.latches p.counts.latches) where
-    pub write-none : not d ≡ true → p ≡ gate_init p
+    pub write_none : not d ≡ true → p ≡ gate_init p
     unfolding gate_init gated_all
-    write-none h =
+    write_none h =
         let q = none_counted used p.latches (gating (leaf_added p.rows used) (used + 1) p.constraints p.counts.constraints) p.counts.latches (sym e ∙ not-true d h) in
         rw (eq-eqb (gated_all p).count p.counts.constraints q)
 
@@ -65,8 +65,8 @@ module _ (p : Part) where
         ne_eqb (gated_all p).count p.counts.constraints (λ (z : (gated_all p).count ≡ p.counts.constraints). absurd (omega (arith, q)))
 
     module _ (n : not d ≡ false) where
-      pub write-room : GateReady p → latch_words * (p.counts.latches + 1) ≤ length p.latches
-      write-room r = r.room (some_gated n)
+      pub write_room : GateReady p → latch_words * (p.counts.latches + 1) ≤ length p.latches
+      write_room r = r.room (some_gated n)
 
       pub write_done : {rows : List ℕ} (s : Gating) {latches last : List ℕ} {m : Counts} → rows ≡ leaf_added p.rows used
           → s ≡ gate_steps used p.latches (gating rows (used + 1) p.constraints p.counts.constraints) p.counts.latches
@@ -123,16 +123,16 @@ module _ (g : Lent) (marks : List ℕ) where
     abbrev rebuilt : Counts → Rebuilt
     rebuilt n = record { answer = r; counts = n }
 
-    pub gate-init-refused : not d ≡ true → rebuilt_seen (rebuilt g.counts) g after ≡ gate_init_call g marks
+    pub gate_init_refused : not d ≡ true → rebuilt_seen (rebuilt g.counts) g after ≡ gate_init_call g marks
     unfolding gate_init_call
-    gate-init-refused h = rw (test_refused told_so test h, told_so, left)
+    gate_init_refused h = rw (test_refused told_so test h, told_so, left)
 
     module _ (h : not d ≡ false) where
       is_done : eqb (gate_init_checked g marks).given.number 0 ≡ true
       is_done = test_done told_so test h
 
-      pub gate-init-ready : GateReady (part_of g)
-      gate-init-ready =
+      pub gate_init_ready : GateReady (part_of g)
+      gate_init_ready =
           let a = gate_init_accepted (eqb-true (gate_init_checked g marks).given.number 0 is_done) in
           record {
             rows = omega (arith, a.sized.rows.fit.within, a.sized.rows.fit.limited);
@@ -140,6 +140,6 @@ module _ (g : Lent) (marks : List ℕ) where
             room = λ e. omega (arith, (room_right g a.has_room e).latches);
           }
 
-      pub gate-init-done : (p : Part) → p ≡ gate_init (part_of g) → rebuilt_seen (rebuilt p.counts) (with_part g p) after ≡ gate_init_call g marks
+      pub gate_init_done : (p : Part) → p ≡ gate_init (part_of g) → rebuilt_seen (rebuilt p.counts) (with_part g p) after ≡ gate_init_call g marks
       unfolding gate_init_call
-      gate-init-done p e = rw (is_done, told_so, left, e)
+      gate_init_done p e = rw (is_done, told_so, left, e)

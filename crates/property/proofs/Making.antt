@@ -4,7 +4,7 @@ use Prim.Native.Nat.{ℕ, zero, suc, ◌+◌, ◌*◌, ◌≤◌, ◌<◌}
 use native.Mathlib.Omega.{arith}
 use native.Mathlib.Nat.{eq-or-lt_of_le}
 use mathlib.Core.Path.{◌≡◌, refl, sym, ap, ◌∙◌}
-use mathlib.Core.Bool.{Bool, true, false, cond, not, ◌||◌, or-false}
+use mathlib.Core.Bool.{Bool, true, false, cond, not, ◌||◌, or_false}
 use mathlib.Core.Logic.{⊎_elim}
 use mathlib.Core.List.{List, [], ◌∷◌}
 use lib.ListN.{length, get_or, set, length-set}
@@ -83,7 +83,7 @@ module _ (rows : List ℕ) (used new : ℕ) (l : Latch) (some : 0 < used) (row :
         complementing.negates (value same.rows leaf) (2 * new),
         grows_edge rows used same same_grows leaf (2 * new) new_used,
         even_value (value rows leaf) new,
-        or-false (edge_value (value same.rows leaf) same.edge),
+        or_false (edge_value (value same.rows leaf) same.edge),
         eq_value rows used (2 * l.input) l.init some input_used within.init same_room leaf,
         even_value (value rows leaf) l.input,
       )
@@ -160,20 +160,20 @@ module _ (rows : List ℕ) (used new : ℕ) (latches constraints : List ℕ) (at
       t_some : 0 < t.used
       t_some = omega (arith, m.grows.more)
 
-      t-row : new < t.used
-      t-row = omega (arith, row, m.grows.more)
+      t_row : new < t.used
+      t_row = omega (arith, row, m.grows.more)
 
-      t-room : c.used ≤ rows_lent t.rows
-      t-room = rw m.grows.long room
+      t_room : c.used ≤ rows_lent t.rows
+      t_room = rw m.grows.long room
 
-      c-grows : Grows t.rows t.used c
-      c-grows = constraint_grows t.rows t.used new l t_some t-row later t-room
+      c_grows : Grows t.rows t.used c
+      c_grows = constraint_grows t.rows t.used new l t_some t_row later t_room
 
       here : get_or (set t.constraints t.count c.edge) (place n) 0 ≡ c.edge
       here = rw (← m.count) (get_or-set_same t.constraints t.count c.edge 0 (omega (arith, m.long)))
 
-      same-implied : (leaf : ℕ → Bool) → implied t.rows new l leaf ≡ implied rows new l leaf
-      same-implied leaf =
+      same_implied : (leaf : ℕ → Bool) → implied t.rows new l leaf ≡ implied rows new l leaf
+      same_implied leaf =
           let s = state t.rows t.used 0 in
           rw (
             grows_value rows used s m.grows leaf new row,
@@ -184,8 +184,8 @@ module _ (rows : List ℕ) (used new : ℕ) (latches constraints : List ℕ) (at
       newest : Stands next n
       newest =
           record {
-            edge = rw here c-grows.edge;
-            means = λ leaf. rw here (constraint_value t.rows t.used new l t_some t-row later t-room leaf ∙ same-implied leaf);
+            edge = rw here c_grows.edge;
+            means = λ leaf. rw here (constraint_value t.rows t.used new l t_some t_row later t_room leaf ∙ same_implied leaf);
           }
 
       older : (i : ℕ) → i < n → gates i ≡ true → Stands next i
@@ -194,8 +194,8 @@ module _ (rows : List ℕ) (used new : ℕ) (latches constraints : List ℕ) (at
           let p : get_or (set t.constraints t.count c.edge) (place i) 0 ≡ get_or t.constraints (place i) 0
           = get_or-set_other t.constraints t.count (place i) c.edge 0 (λ (z : place i ≡ t.count). absurd (omega (arith, m.count, count_past gates n i h q))) in
           record {
-            edge = rw p (omega (arith, s.edge, c-grows.more));
-            means = λ leaf. rw p (grows_edge t.rows t.used c c-grows leaf (get_or t.constraints (place i) 0) s.edge ∙ s.means leaf);
+            edge = rw p (omega (arith, s.edge, c_grows.more));
+            means = λ leaf. rw p (grows_edge t.rows t.used c c_grows leaf (get_or t.constraints (place i) 0) s.edge ∙ s.means leaf);
           }
 
       each : (i : ℕ) → i < suc n → gates i ≡ true → Stands next i
@@ -209,7 +209,7 @@ module _ (rows : List ℕ) (used new : ℕ) (latches constraints : List ℕ) (at
       unfolding count_below
       made_one =
           record {
-            grows = grows_with rows used c 0 (grows_on rows used (state t.rows t.used 0) c m.grows c-grows) (omega (arith, t_some, c-grows.more));
+            grows = grows_with rows used c 0 (grows_on rows used (state t.rows t.used 0) c m.grows c_grows) (omega (arith, t_some, c_grows.more));
             count = rw e (omega (arith, m.count));
             long = length-set t.constraints t.count c.edge ∙ m.long;
             before = λ j h. get_or-set_other t.constraints t.count j c.edge 0 (λ (z : j ≡ t.count). absurd (omega (arith, m.count))) ∙ m.before j h;

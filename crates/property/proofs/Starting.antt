@@ -31,7 +31,7 @@ use Rattle.gates.proofs.Meaning.{grows_value, grows_edge}
 use Rattle.build_leaves.proofs.Keeping.{keeps}
 use Rattle.build_leaves.proofs.Meaning.{leaf_grows, leaf_made}
 use Rattle.build_leaves.proofs.Graphs.{rows_stay, listed_used}
-use Rattle.build_latches.proofs.Graphs.{latch-stays}
+use Rattle.build_latches.proofs.Graphs.{latch_stays}
 use Rattle.graph.proofs.Counting.{count_past, Counted, counted as counted-at}
 use Rattle.graph.proofs.Latches.{latch_set_length, latch_kept, latch_set_at, same_inputs}
 use Rattle.property.specs.GateInit.{Gating, gating, gate_steps, initless, inits_taken, part_of, with_part, gated_all, gated_counts, new_latch, gated_part}
@@ -237,7 +237,7 @@ module _ (g : Lent) (marks : ℕ) (z : Sized g marks) (w : WellFormed g) (room :
   after_stays : WellFormed (with_part g (gated_part (part_of g)))
   unfolding gated_part gated_counts gated_all counted
   after_stays =
-      latch-stays gated gated_stays used (omega (arith, m.grows.more), is_leaf_lem) unlisted 0 1 latch_room (constant_edges s.used used (omega (arith, m.grows.more)))
+      latch_stays gated gated_stays used (omega (arith, m.grows.more), is_leaf_lem) unlisted 0 1 latch_room (constant_edges s.used used (omega (arith, m.grows.more)))
 
   after_sized : (k : ℕ) → (with_part g (gated_part (part_of g))).counts.rows ≤ k → Sized (with_part g (gated_part (part_of g))) k
   unfolding gated_part gated_counts gated_all

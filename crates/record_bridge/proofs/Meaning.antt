@@ -56,13 +56,13 @@ module _ (latches : List ℕ) (i next : ℕ) where
     abbrev Table : Bool → TableSeen
     Table b = cond b (record { given = done; table = set table i new }) (record { given = bad_argument; table = table })
 
-    after-there : i < table_size → after ≡ set table i new
+    after_there : i < table_size → after ≡ set table i new
     unfolding next_call
-    after-there h = let k : i < length table = rw (held_length latches fills) h in ap (λ (b : Bool). (Table b).table) (lt-ltb i (length table) k)
+    after_there h = let k : i < length table = rw (held_length latches fills) h in ap (λ (b : Bool). (Table b).table) (lt-ltb i (length table) k)
 
-    after-past : table_size ≤ i → after ≡ table
+    after_past : table_size ≤ i → after ≡ table
     unfolding next_call
-    after-past h = let k : length table ≤ i = rw (held_length latches fills) h in ap (λ (b : Bool). (Table b).table) (le-ltb i (length table) k)
+    after_past h = let k : length table ≤ i = rw (held_length latches fills) h in ap (λ (b : Bool). (Table b).table) (le-ltb i (length table) k)
 
     -- record i is latch i of the words
     same : get_or table i no_latch ≡ latch_at latches i
@@ -74,7 +74,7 @@ module _ (latches : List ℕ) (i next : ℕ) where
         let k : i < length table = rw (held_length latches fills) h in
         let whole : EntrySeen = record { found = record { given = done; latch = with_next (latch_at latches i) next }; latches = latch_set latches i (with_next (latch_at latches i) next) } in
         let is : whole ≡ entry_call latches i next = rw (eq-eqb (length latches) (latch_words * table_size) fills, lt-ltb i table_size h) in
-        ap (λ (t : List Latch). record { found = latch_call t i; latches = words_of t }) (after-there h)
+        ap (λ (t : List Latch). record { found = latch_call t i; latches = words_of t }) (after_there h)
         ∙ ((λ j. record { found = read_set table i new k j; latches = words_set table i new j })
         ∙ ((λ j. record { found = record { given = done; latch = with_next (same j) next }; latches = latch_set (held_words latches fills j) i (with_next (same j) next) }) ∙ is))
 
@@ -84,23 +84,23 @@ module _ (latches : List ℕ) (i next : ℕ) where
         let k : length table ≤ i = rw (held_length latches fills) h in
         let whole : EntrySeen = record { found = record { given = bad_argument; latch = no_latch }; latches = latches } in
         let is : whole ≡ entry_call latches i next = rw (eq-eqb (length latches) (latch_words * table_size) fills, le-ltb i table_size h) in
-        ap (λ (t : List Latch). record { found = latch_call t i; latches = words_of t }) (after-past h) ∙ ((λ j. record { found = read_past table i k j; latches = held_words latches fills j }) ∙ is)
+        ap (λ (t : List Latch). record { found = latch_call t i; latches = words_of t }) (after_past h) ∙ ((λ j. record { found = read_past table i k j; latches = held_words latches fills j }) ∙ is)
 
-    entry-is : record { found = latch_call after i; latches = words_of after } ≡ entry_call latches i next
-    entry-is = ⊎_elim there past (lt_or_le i table_size)
+    entry_is : record { found = latch_call after i; latches = words_of after } ≡ entry_call latches i next
+    entry_is = ⊎_elim there past (lt_or_le i table_size)
 
-    after-length : length after ≡ table_size
-    after-length =
-        ⊎_elim (λ (h : i < table_size). ap length (after-there h) ∙ (length-set table i new ∙ held_length latches fills))
-        (λ (h : table_size ≤ i). ap length (after-past h) ∙ held_length latches fills) (lt_or_le i table_size)
+    after_length : length after ≡ table_size
+    after_length =
+        ⊎_elim (λ (h : i < table_size). ap length (after_there h) ∙ (length-set table i new ∙ held_length latches fills))
+        (λ (h : table_size ≤ i). ap length (after_past h) ∙ held_length latches fills) (lt_or_le i table_size)
 
-    pub entry-full : next_through latches i next ≡ entry_call latches i next
+    pub entry_full : next_through latches i next ≡ entry_call latches i next
     unfolding next_through
-    entry-full = ap (λ (z : List ℕ). record { found = latch_call after i; latches = z }) (written latches fills after after-length) ∙ entry-is
+    entry_full = ap (λ (z : List ℕ). record { found = latch_call after i; latches = z }) (written latches fills after after_length) ∙ entry_is
 
 pub entry_right : (latches : List ℕ) (i next : ℕ) (fills : full latches ≡ true) → EntryRight latches i next fills
 entry_right latches i next fills =
-    let e = sym (entry-is latches i next (eqb-true (length latches) (latch_words * table_size) fills)) in
+    let e = sym (entry_is latches i next (eqb-true (length latches) (latch_words * table_size) fills)) in
     record { read = ap (λ (z : EntrySeen). z.found) e; left = ap (λ (z : EntrySeen). z.latches) e }
 
 -- ---- a call that reads one graph

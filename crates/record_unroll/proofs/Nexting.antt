@@ -43,8 +43,8 @@ all_alone map latches from (suc n) j =
 
 pub unroll_alone : (a b : Lent) (marks : List ℕ) → NextsAlone a.latches (unroll_call a b marks).graph.latches
 unfolding unroll_call framed lists_grown
-unroll_alone a b marks = by-test (eqb (unroll_answer a b marks).number 0)
+unroll_alone a b marks = by_test (eqb (unroll_answer a b marks).number 0)
   where
-    by-test : (t : Bool) → NextsAlone a.latches (cond t (framed a b) a).latches
-    by-test true = all_alone (frame_between a b).map a.latches b.latches b.counts.latches
-    by-test false = λ j. refl
+    by_test : (t : Bool) → NextsAlone a.latches (cond t (framed a b) a).latches
+    by_test true = all_alone (frame_between a b).map a.latches b.latches b.counts.latches
+    by_test false = λ j. refl

@@ -1,9 +1,9 @@
 -- A local array of n values of one type, lent whole as a slice for a lifetime of a call.
---     filled, filled-typed     `[x; n]` written to the local is n times x lying there, and has the local's type
---     lends-array      n values lie at b  ⊢ ⇛ ∃ γ. own (the `&κ mut [T]` on them) ∗ the lender's part, which `denote.Lend`'s `slice_back` takes back
+--     filled, filled_typed     `[x; n]` written to the local is n times x lying there, and has the local's type
+--     lends_array      n values lie at b  ⊢ ⇛ ∃ γ. own (the `&κ mut [T]` on them) ∗ the lender's part, which `denote.Lend`'s `slice_back` takes back
 --     shares_array     the same as `&κ [T]`
---     shared-array     [†κ] ∗ the lender's part  ⊢ ⇛ (they lie at b)
---     array-room       n values that lie in the local are its room again
+--     shared_array     [†κ] ∗ the lender's part  ⊢ ⇛ (they lie at b)
+--     array_room       n values that lie in the local are its room again
 -- Assumes `Logic`; the definitions, `each_filled` and `filled_is` nothing.
 use mathlib.Core.Path.{refl, sym, subst}
 use Prim.Native.Nat.{ℕ, zero, suc}
@@ -51,8 +51,8 @@ module _ (R : RattleType) (n : ℕ) where
   module _ {M : Type 1} {𝓤 : Ura M} (𝓛 : Logic 𝓤) where
     open 𝓛 use {H, A}
 
-    pub filled-typed : Lawful 𝓛 R → (x : R.Denot) (u : Val) → Is R x (u ∷ []) → T (has_ty (ty_array (lone R.mir) n) (array_val (replicate n u))) × WT (array_val (replicate n u))
-    filled-typed L x u is = ((Array-Lawful 𝓛 R L n).typed (replicate n x) (array_val (replicate n u) ∷ []) (filled_is x u is)).0
+    pub filled_typed : Lawful 𝓛 R → (x : R.Denot) (u : Val) → Is R x (u ∷ []) → T (has_ty (ty_array (lone R.mir) n) (array_val (replicate n u))) × WT (array_val (replicate n u))
+    filled_typed L x u is = ((Array-Lawful 𝓛 R L n).typed (replicate n x) (array_val (replicate n u) ∷ []) (filled_is x u is)).0
 
     pub filled : Single R.mir → Makes 𝓛 R (Is R) → (x : R.Denot) (u : Val) → Is R x (u ∷ []) → (b : ℕ)
         → ent 𝓤 (sem 𝓛 (fat full_share (ty_array (lone R.mir) n) b 0 (array_val (replicate n u)))) (sem 𝓛 (Lying (replicate n x) b))
@@ -65,8 +65,8 @@ module _ (R : RattleType) (n : ℕ) where
         (Array-apart 𝓛 R full_share one n (replicate n x) b 0) $ fsplit ! $ move ! (1 ∷ []) $ rewrite ! 0 (λ (G : Fml). ‵ G) (parts-cells R full_share (replicate n x) b 0) refl $ move !
         (1 ∷ 0 ∷ []) $ done !
 
-    pub array-room : (ys : List R.Denot) (b : ℕ) → ent 𝓤 (sem 𝓛 (Lying ys b)) (sem 𝓛 (froom (ty_array (lone R.mir) n) b 0))
-    array-room ys b =
+    pub array_room : (ys : List R.Denot) (b : ℕ) → ent 𝓤 (sem 𝓛 (Lying ys b)) (sem 𝓛 (froom (ty_array (lone R.mir) n) b 0))
+    array_room ys b =
         qed 𝓛 (‵ (Lying ys b) ∷ []) ∵ fsplit ! $ move ! (1 ∷ []) $ rewrite ! 0 (λ (G : Fml). ‵ G) (sym (parts-cells R full_share ys b 0)) refl $ move ! (1 ∷ 0 ∷ []) $ fjoin ! $
         use1 𝓛 (‵ (part_at (Array R n) full_share ys b 0)) (Array-whole 𝓛 R full_share n ys b 0) $ by ! (part_room 𝓛 (Array R n) ys b 0)
 
@@ -75,9 +75,9 @@ module _ (R : RattleType) (n : ℕ) where
       Lends m = ent 𝓤 (sem 𝓛 (cells (mem R) ys b 0))
           (H.⇛ (ex 𝓤 (λ (γ : GName). sep 𝓤 (sem 𝓛 ((MutSlice ℓ κ R).own_val (record { ref_ptr = (b, 0); ghost_name = γ; now = ys }) (slice_val (b, 0) m ∷ []))) (sem 𝓛 (flent κ (Held R m b 0 γ))))))
 
-      pub lends-array : Room R n → ent 𝓤 (sem 𝓛 (Lying ys b))
+      pub lends_array : Room R n → ent 𝓤 (sem 𝓛 (Lying ys b))
           (H.⇛ (ex 𝓤 (λ (γ : GName). sep 𝓤 (sem 𝓛 ((MutSlice ℓ κ R).own_val (record { ref_ptr = (b, 0); ghost_name = γ; now = ys }) (slice_val (b, 0) n ∷ []))) (sem 𝓛 (flent κ (Held R n b 0 γ))))))
-      lends-array room =
+      lends_array room =
           qed 𝓛 (‵ (Lying ys b) ∷ []) ∵ fsplit ! $ feq_l ! (λ e. by ! (subst Lends e (lends_slice 𝓛 R ℓ κ ys b 0 (subst (Room R) (sym e) room))))
 
       abbrev Shares : ℕ → Type 1
@@ -94,7 +94,7 @@ module _ (R : RattleType) (n : ℕ) where
           qed 𝓛 (‵ (Lying ys b) ∷ []) ∵ fsplit ! $ feq_l ! (λ e. rewrite ! 0 (λ (G : Fml). ‵ G) (sym (parts-cells R full_share ys b 0)) refl $ feq_i ! ℕ (length ys) n e $ fjoin ! $
           by ! (subst Shares e (lends_shr_slice 𝓛 R ℓ κ full_share ys b 0 (subst (Room R) (sym e) room))))
 
-    pub shared-array : (κ : Lft) (b : ℕ) (ys : List R.Denot) → ent 𝓤 (sep 𝓤 (A.dead κ) (sem 𝓛 (flent κ (Shared ys b)))) (H.⇛ (sem 𝓛 (Lying ys b)))
-    shared-array κ b ys =
+    pub shared_array : (κ : Lft) (b : ℕ) (ys : List R.Denot) → ent 𝓤 (sep 𝓤 (A.dead κ) (sem 𝓛 (flent κ (Shared ys b)))) (H.⇛ (sem 𝓛 (Lying ys b)))
+    shared_array κ b ys =
         qed 𝓛 (‵ (fdead κ) ∷ ‵ (flent κ (Shared ys b)) ∷ []) ∵ updating ! $ lent_back ! tt $ fsplit ! $ move ! (1 ∷ []) $
         rewrite ! 0 (λ (G : Fml). ‵ G) (parts-cells R full_share ys b 0) refl $ move ! (1 ∷ 0 ∷ []) $ at_once ! $ fjoin ! $ done !

@@ -29,13 +29,13 @@ module _ (t : List Latch) (words : List ℕ) where
 
   pub laid_length : length (laid_out t words) ≡ length words
   unfolding laid_out
-  laid_length = by-test (room_for t words) refl
+  laid_length = by_test (room_for t words) refl
     where
-      by-test : (b : Bool) → room_for t words ≡ b → length (cond b (words_of t ++ behind (length t) words) words) ≡ length words
-      by-test true e =
+      by_test : (b : Bool) → room_for t words ≡ b → length (cond b (words_of t ++ behind (length t) words) words) ≡ length words
+      by_test true e =
           let h : length t ≤ latches_lent words = leb-true (length t) (latches_lent words) e in
           length-append (words_of t) (behind (length t) words) ∙ (omega (arith, h, words_length t, length-drop (latch_words * length t) words))
-      by-test false e = refl
+      by_test false e = refl
 
   pub laid_front : room_for t words ≡ true → front (length t) (laid_out t words) ≡ words_of t
   laid_front e = ap (front (length t)) (laid_is e) ∙ take_at (words_of t) (behind (length t) words) (latch_words * length t) (words_length t)
@@ -46,13 +46,13 @@ module _ (t : List Latch) (words : List ℕ) where
   -- wiped, they are as if they had never been laid out
   pub laid_wiped : wiped (length t) (laid_out t words) ≡ wiped (length t) words
   unfolding wiped
-  laid_wiped = by-test (room_for t words) refl
+  laid_wiped = by_test (room_for t words) refl
     where
-      by-test :
+      by_test :
           (b : Bool) → room_for t words ≡ b → cond (leb (length t) (latches_lent (laid_out t words))) (cleared (latch_words * length t) (laid_out t words)) (laid_out t words) ≡ cond
           (leb (length t) (latches_lent words)) (cleared (latch_words * length t) words) words
-      by-test true e = rw (laid_length, e) (ap (λ (z : List ℕ). replicate (latch_words * length t) 0 ++ z) (laid_behind e))
-      by-test false e = rw (laid_length, e) (laid_same e)
+      by_test true e = rw (laid_length, e) (ap (λ (z : List ℕ). replicate (latch_words * length t) 0 ++ z) (laid_behind e))
+      by_test false e = rw (laid_length, e) (laid_same e)
 
 -- as long as the words, so the same room
 pub room_like : (t : List Latch) (x y : List ℕ) → length x ≡ length y → room_for t x ≡ room_for t y
@@ -71,16 +71,16 @@ module _ {S : Type 0} (call : List ℕ → S) (latches : S → List ℕ) (t : Li
     has_room_lem : room_for t after ≡ true
     has_room_lem = room_like t after words (left.long ∙ laid_length t words) ∙ room
 
-    all-taken : words_of (records_back t after) ≡ latches (call (words_of t))
-    all-taken = all_back t after has_room_lem ∙ (left.lent ∙ ap latches is_called)
+    all_taken_lem : words_of (records_back t after) ≡ latches (call (words_of t))
+    all_taken_lem = all_back t after has_room_lem ∙ (left.lent ∙ ap latches is_called)
 
-    nexts-taken : NextsAlone (words_of t) (latches (call (words_of t))) → words_of (nexts_back t after) ≡ latches (call (words_of t))
-    nexts-taken alone = ap words_of (nexts_all t after has_room_lem (subst (NextsAlone (words_of t)) (sym (left.lent ∙ ap latches is_called)) alone)) ∙ all-taken
+    nexts_taken : NextsAlone (words_of t) (latches (call (words_of t))) → words_of (nexts_back t after) ≡ latches (call (words_of t))
+    nexts_taken alone = ap words_of (nexts_all t after has_room_lem (subst (NextsAlone (words_of t)) (sym (left.lent ∙ ap latches is_called)) alone)) ∙ all_taken_lem
 
-    is-clean : wiped (length t) after ≡ wiped (length t) words
-    is-clean =
+    is_clean : wiped (length t) after ≡ wiped (length t) words
+    is_clean =
         wiped_room t after has_room_lem
         ∙ (ap (λ (z : List ℕ). replicate (latch_words * length t) 0 ++ z) (left.rest ∙ laid_behind t words room) ∙ sym (wiped_room t words room))
 
   pub call_right : CallRight call latches t words room
-  call_right = record { called = is_called; back = all-taken; nexts = nexts-taken; clean = is-clean }
+  call_right = record { called = is_called; back = all_taken_lem; nexts = nexts_taken; clean = is_clean }

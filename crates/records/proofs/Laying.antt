@@ -92,17 +92,17 @@ module _ (t : List Latch) (words : List ℕ) (room : length t ≤ latches_lent w
 -- `copied` of them, whatever the room
 pub sofar_copied : (t : List Latch) (words : List ℕ) → sofar t words (copied (length t) (latches_lent words)) ≡ laid_out t words
 unfolding copied laid_out
-sofar_copied t words = by-test (leb (length t) (latches_lent words)) refl
+sofar_copied t words = by_test (leb (length t) (latches_lent words)) refl
   where
-    by-test : (b : Bool) → leb (length t) (latches_lent words) ≡ b → sofar t words (cond b (length t) 0) ≡ cond b (words_of t ++ drop (latch_words * length t) words) words
-    by-test true e = sofar_all t words (leb-true (length t) (latches_lent words) e)
-    by-test false e = refl
+    by_test : (b : Bool) → leb (length t) (latches_lent words) ≡ b → sofar t words (cond b (length t) 0) ≡ cond b (words_of t ++ drop (latch_words * length t) words) words
+    by_test true e = sofar_all t words (leb-true (length t) (latches_lent words) e)
+    by_test false e = refl
 
 -- as many as are copied are records, and their words are lent
 pub copied_within : (n lent : ℕ) → copied n lent ≤ n × copied n lent ≤ lent
 unfolding copied
-copied_within n lent = by-test (leb n lent) refl
+copied_within n lent = by_test (leb n lent) refl
   where
-    by-test : (b : Bool) → leb n lent ≡ b → (cond b n 0 ≤ n) × (cond b n 0 ≤ lent)
-    by-test true e = (le_refl n, leb-true n lent e)
-    by-test false e = (omega arith, omega arith)
+    by_test : (b : Bool) → leb n lent ≡ b → (cond b n 0 ≤ n) × (cond b n 0 ≤ lent)
+    by_test true e = (le_refl n, leb-true n lent e)
+    by_test false e = (omega arith, omega arith)

@@ -23,11 +23,11 @@ lends t = omega (arith, words_length t)
 module _ (f : Latch → Latch → Latch) (t : List Latch) (words : List ℕ) where
   back_kept : length (back f t words) ≡ length t
   unfolding back
-  back_kept = by-test (room_for t words)
+  back_kept = by_test (room_for t words)
     where
-      by-test : (b : Bool) → length (cond b (back_from f 0 t words) t) ≡ length t
-      by-test true = back_length f words 0 t
-      by-test false = refl
+      by_test : (b : Bool) → length (cond b (back_from f 0 t words) t) ≡ length t
+      by_test true = back_length f words 0 t
+      by_test false = refl
 
   from_at : (i : ℕ) → i < length t → get_or (back_from f 0 t words) i no_latch ≡ f (get_or t i no_latch) (latch_at words i)
   from_at i h = let e : 0 + i ≡ i = omega arith in back_at f words 0 t i h ∙ ap (λ (k : ℕ). f (get_or t i no_latch) (latch_at words k)) e
@@ -44,14 +44,14 @@ back_stays f t words e = rw e
 -- where what is taken of a record's own words is the record, nothing changes
 own_back : (f : Latch → Latch → Latch) → ((l : Latch) → f l l ≡ l) → (t : List Latch) → back f t (words_of t) ≡ t
 unfolding back
-own_back f own t = by-test (room_for t (words_of t))
+own_back f own t = by_test (room_for t (words_of t))
   where
-    by-test : (b : Bool) → cond b (back_from f 0 t (words_of t)) t ≡ t
-    by-test true =
+    by_test : (b : Bool) → cond b (back_from f 0 t (words_of t)) t ≡ t
+    by_test true =
         ext_get_or no_latch (back_from f 0 t (words_of t)) t (back_length f (words_of t) 0 t)
         (λ i h. let k : i < length t = rw (sym (back_length f (words_of t) 0 t)) h in
         from_at f t (words_of t) i k ∙ (ap (f (get_or t i no_latch)) (latch_of_words t i) ∙ own (get_or t i no_latch)))
-    by-test false = refl
+    by_test false = refl
 
 -- all of the words' latches taken: the records hold the first words
 read_back : (words : List ℕ) (t : List Latch) (k : ℕ) → latch_words * (k + length t) ≤ length words → words_of (back_from all_taken k t words) ≡ take (latch_words * length t) (drop (latch_words * k) words)

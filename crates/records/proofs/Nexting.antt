@@ -67,8 +67,8 @@ module _ (f : Latch → Latch → Latch) (words : List ℕ) where
     -- `copied` of them, whatever the room
     pub sofar_copied : sofar (copied (length t) (latches_lent words)) ≡ back f t words
     unfolding copied back
-    sofar_copied = by-test (leb (length t) (latches_lent words))
+    sofar_copied = by_test (leb (length t) (latches_lent words))
       where
-        by-test : (b : Bool) → sofar (cond b (length t) 0) ≡ cond b (back_from f 0 t words) t
-        by-test true = sofar_all
-        by-test false = refl
+        by_test : (b : Bool) → sofar (cond b (length t) 0) ≡ cond b (back_from f 0 t words) t
+        by_test true = sofar_all
+        by_test false = refl

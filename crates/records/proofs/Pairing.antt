@@ -64,15 +64,15 @@ module _ {S : Type 0} (call : List ℕ → List ℕ → S) (refused seen : List 
   either b x = cond b (call x (words_of t2)) (refused x)
 
   module _ (room : room_for t words ≡ true) where
-    with-room : (b : Bool) → room_for t2 words2 ≡ b → seen (front (length t) after) ≡ either b laid
-    with-room true e = tested ∙ ((λ j. Test (room j) (e j)) ∙ ap (call laid) (laid_front t2 words2 e))
-    with-room false e = tested ∙ (λ j. Test (room j) (e j))
+    with_room : (b : Bool) → room_for t2 words2 ≡ b → seen (front (length t) after) ≡ either b laid
+    with_room true e = tested ∙ ((λ j. Test (room j) (e j)) ∙ ap (call laid) (laid_front t2 words2 e))
+    with_room false e = tested ∙ (λ j. Test (room j) (e j))
 
     abbrev second : Bool
     second = room_for t2 words2
 
     left : Leaves (length t) (laid_out t words) after (get (either second laid))
-    left = record { long = long ∙ sym (laid_length t words); lent = sym (get_seen (front (length t) after)) ∙ ap get (with-room second refl); rest = kept }
+    left = record { long = long ∙ sym (laid_length t words); lent = sym (get_seen (front (length t) after)) ∙ ap get (with_room second refl); rest = kept }
 
     right : CallRight (either second) get t words room
     right = call_right (either second) get t words room
@@ -81,30 +81,30 @@ module _ {S : Type 0} (call : List ℕ → List ℕ → S) (refused seen : List 
     alone true = keeps (words_of t) (words_of t2)
     alone false = subst (NextsAlone (words_of t)) (sym (get_refused (words_of t))) (λ j. refl)
 
-    seen-with : seen (words_of (nexts_back t after)) ≡ either second (words_of t)
-    seen-with =
+    seen_with : seen (words_of (nexts_back t after)) ≡ either second (words_of t)
+    seen_with =
         ap seen (right.nexts after left (alone second) ∙ (ap get (sym right.called) ∙ sym left.lent))
-        ∙ (with-room second refl ∙ right.called)
+        ∙ (with_room second refl ∙ right.called)
 
   -- ---- without: the graph, its records and the work words are as they were
   module _ (none : room_for t words ≡ false) where
-    refused-at : seen (front (length t) after) ≡ refused (front (length t) words)
-    refused-at = tested ∙ ((λ j. Test (none j) (room_for t2 words2)) ∙ ap (λ (z : List ℕ). refused (front (length t) z)) (laid_same t words none))
+    refused_at : seen (front (length t) after) ≡ refused (front (length t) words)
+    refused_at = tested ∙ ((λ j. Test (none j) (room_for t2 words2)) ∙ ap (λ (z : List ℕ). refused (front (length t) z)) (laid_same t words none))
 
     untouched : after ≡ words
     untouched =
-        let f : front (length t) after ≡ front (length t) words = sym (get_seen (front (length t) after)) ∙ (ap get refused-at ∙ get_refused (front (length t) words)) in
+        let f : front (length t) after ≡ front (length t) words = sym (get_seen (front (length t) after)) ∙ (ap get refused_at ∙ get_refused (front (length t) words)) in
         let g : behind (length t) after ≡ behind (length t) words = kept ∙ ap (behind (length t)) (laid_same t words none) in
         sym (take-append-drop (latch_words * length t) after) ∙ ((λ j. f j ++ g j) ∙ take-append-drop (latch_words * length t) words)
 
-    seen-without : seen (words_of (nexts_back t after)) ≡ refused (words_of t)
-    seen-without =
+    seen_without : seen (words_of (nexts_back t after)) ≡ refused (words_of t)
+    seen_without =
         ap (λ (u : List Latch). seen (words_of u)) (back_stays take_next t after (room_like t after words long ∙ none))
-        ∙ (sym (put-seen (front (length t) after) (words_of t)) ∙ (ap (λ (s : S). put s (words_of t)) refused-at ∙ Put-refused (front (length t) words) (words_of t)))
+        ∙ (sym (put-seen (front (length t) after) (words_of t)) ∙ (ap (λ (s : S). put s (words_of t)) refused_at ∙ Put-refused (front (length t) words) (words_of t)))
 
   seen_right_lem : (a : Bool) → room_for t words ≡ a → seen (words_of (nexts_back t after)) ≡ cond (a && room_for t2 words2) (call (words_of t) (words_of t2)) (refused (words_of t))
-  seen_right_lem true e = seen-with e
-  seen_right_lem false e = seen-without e
+  seen_right_lem true e = seen_with e
+  seen_right_lem false e = seen_without e
 
   words_right : (a : Bool) → room_for t words ≡ a → wiped (length t) after ≡ wiped (length t) words
   words_right true e = (right e).clean after (left e)

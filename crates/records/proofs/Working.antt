@@ -36,9 +36,9 @@ module _ {S : Type 0} (call : List ℕ → S) (refused : S) where
     seen true e = (call_right call (λ _. words_of t) t words e).called
     seen false e = refl
 
-    pub on-records : on_words (length t) (laid_out t words) call refused ≡ on_records t words call refused
+    pub on_records_lem : on_words (length t) (laid_out t words) call refused ≡ on_records t words call refused
     unfolding on_words on_records
-    on-records = λ j. worked ((ap Seen (room_like t (laid_out t words) words (laid_length t words)) ∙ seen (room_for t words) refl) j) (laid_wiped t words j)
+    on_records_lem = λ j. worked ((ap Seen (room_like t (laid_out t words) words (laid_length t words)) ∙ seen (room_for t words) refl) j) (laid_wiped t words j)
 
 -- the front of the work words that the call is lent
 pub front_length : (n : ℕ) (words : List ℕ) → n ≤ latches_lent words → latch_words * n ≡ length (take (latch_words * n) words)

@@ -113,13 +113,13 @@ module _ (g out : Lent) (marks : ℕ) (s : Sized g marks) (w : WellFormed g) (no
     edge_kept : (e : ℕ) → id_of e < used → renamed (new_id new) e ≡ e
     edge_kept e l = same_edge (new_id new) e (kept (id_of e) l)
 
-    init-kept : (e : ℕ) → (e ≡ none) ⊎ (id_of e < used) → renamed (new_id new) e ≡ e
-    init-kept e (inl q) = result.none_stays (new_id new) e q ∙ sym q
-    init-kept e (inr l) = edge_kept e l
+    init_kept : (e : ℕ) → (e ≡ none) ⊎ (id_of e < used) → renamed (new_id new) e ≡ e
+    init_kept e (inl q) = result.none_stays (new_id new) e q ∙ sym q
+    init_kept e (inr l) = edge_kept e l
 
-    gate-kept : (r : ℕ) → r < used → gate_at rows r ≡ true → Sorted (word0 rows r) (word1 rows r) → (word0 last.rows r ≡ word0 rows r) × (word1 last.rows r ≡ word1 rows r)
+    gate_kept : (r : ℕ) → r < used → gate_at rows r ≡ true → Sorted (word0 rows r) (word1 rows r) → (word0 last.rows r ≡ word0 rows r) × (word1 last.rows r ≡ word1 rows r)
     unfolding reencoded
-    gate-kept r l h o =
+    gate_kept r l h o =
         let b = gate_below r (word0 rows r) (word1 rows r) h in
         let x = edge_kept (word0 rows r) (omega (arith, b.0)) in
         let y = edge_kept (word1 rows r) (omega (arith, b.1)) in
@@ -145,18 +145,18 @@ module _ (g out : Lent) (marks : ℕ) (s : Sized g marks) (w : WellFormed g) (no
     row_kept r l =
         ⊎_elim
         (λ (p : 0 < r). ⊎_elim (λ (h : r < first). let e : r ≡ (r - 1) + 1 = omega arith in rw e (leaf_kept (r - 1) (omega arith)))
-        (λ (h : first ≤ r). gate-kept r l (result.gate_there g out marks s w no room limited r h l) (result.gate_sorted g out marks s w no room limited r h l)) (lt_or_le r first))
+        (λ (h : first ≤ r). gate_kept r l (result.gate_there g out marks s w no room limited r h l) (result.gate_sorted g out marks s w no room limited r h l)) (lt_or_le r first))
         (λ (z : r ≤ 0). let e : r ≡ 0 = omega arith in rw e zero_kept) (lt_or_le 0 r)
 
     -- the lists
-    edges-kept :
+    edges_kept :
         (list after : List ℕ) (n : ℕ) → ((j : ℕ) → j < n → get_or after (0 + j) 0 ≡ renamed (new_id new) (get_or list j 0)) → ((j : ℕ) → j < n → id_of (get_or list j 0) < used) → (j : ℕ) → j < n →
         get_or after j 0 ≡ get_or list j 0
-    edges-kept list after n e u j l = let z : 0 + j ≡ j = omega arith in ap (λ (k : ℕ). get_or after k 0) (sym z) ∙ (e j l ∙ edge_kept (get_or list j 0) (u j l))
+    edges_kept list after n e u j l = let z : 0 + j ≡ j = omega arith in ap (λ (k : ℕ). get_or after k 0) (sym z) ∙ (e j l ∙ edge_kept (get_or list j 0) (u j l))
 
     latch_kept : (l : Latch) → l.input < used → id_of l.next < used → (l.init ≡ none) ⊎ (id_of l.init < used) → renamed_latch (new_id new) l ≡ l
     unfolding renamed_latch
-    latch_kept l a b c = rw (kept l.input a, edge_kept l.next b, init-kept l.init c)
+    latch_kept l a b c = rw (kept l.input a, edge_kept l.next b, init_kept l.init c)
 
     pub same_graph : SameGraph new last
     unfolding reencoded
@@ -169,12 +169,12 @@ module _ (g out : Lent) (marks : ℕ) (s : Sized g marks) (w : WellFormed g) (no
           inputs = λ j l. result.input_number new out' used new_sized new_formed no_orphan_lem room' limited' j l ∙ sym (result.input_number g out marks s w no room limited j l);
           latches = λ j l. result.latch_entry new out' used new_sized new_formed no_orphan_lem room' limited' j l ∙ latch_kept (latch_at new.latches j) (new_formed.latches j l).0
               (new_formed.nexts j l) (new_formed.inits j l);
-          constraints = edges-kept new.constraints last.constraints g.counts.constraints e.constraints new_formed.constraints;
-          bads = edges-kept new.bads last.bads g.counts.bads e.bads new_formed.bads;
-          outputs = edges-kept new.outputs last.outputs g.counts.outputs e.outputs new_formed.outputs;
+          constraints = edges_kept new.constraints last.constraints g.counts.constraints e.constraints new_formed.constraints;
+          bads = edges_kept new.bads last.bads g.counts.bads e.bads new_formed.bads;
+          outputs = edges_kept new.outputs last.outputs g.counts.outputs e.outputs new_formed.outputs;
           ends = λ j l. let z : 0 + j ≡ j = omega arith in ap (λ (k : ℕ). get_or last.ends k 0) (sym z) ∙ (e.ends j l ∙ omega arith);
-          edges = edges-kept new.edges last.edges g.counts.edges e.edges new_formed.edges;
-          fairness = edges-kept new.fairness last.fairness g.counts.fairness e.fairness new_formed.fairness;
+          edges = edges_kept new.edges last.edges g.counts.edges e.edges new_formed.edges;
+          fairness = edges_kept new.fairness last.fairness g.counts.fairness e.fairness new_formed.fairness;
         }
 
   pub settled : Settled new

@@ -21,7 +21,7 @@ use Rattle.graph.specs.Check.{cleared, CheckSeen, check_seen, check_call}
 use Rattle.graph.specs.WellFormed.{WellFormed}
 use Rattle.graph.proofs.Marked.{marks_none, cleared_again}
 use Rattle.graph.proofs.WellFormed.{exact}
-use Rattle.root_marks.proofs.Arguments.{args_room, args-bad, args-told}
+use Rattle.root_marks.proofs.Arguments.{args_room, args_bad, args_told}
 use Rattle.graph.specs.Count.{count_below}
 use Rattle.renumber.specs.declared.Rebuilt.{Rebuilt}
 use Rattle.output.specs.Room.{room_in, limits_in, limits, fits_in, has_room, Room}
@@ -57,7 +57,7 @@ module _ (g : Lent) (room : Counts) (marks : List ℕ) where
     unfolding asked_in
     check_refused_lem h =
         let n : eqb (told a).number 0 ≡ false = sym test ∙ not-true d h in
-        stands_so a (args-told (limits_in room) (no_orphan g) g marks within a after seen (rw n)) (eqb-false (told a).number 0 n)
+        stands_so a (args_told (limits_in room) (no_orphan g) g marks within a after seen (rw n)) (eqb-false (told a).number 0 n)
 
     module _ (h : not d ≡ false) where
       zero : eqb (told a).number 0 ≡ true
@@ -70,11 +70,11 @@ module _ (g : Lent) (room : Counts) (marks : List ℕ) where
         counted : n ≡ g.counts.inputs + g.counts.latches + orphans g
         counted = count ∙ leaves_counted g (length marks) accepted.0 accepted.1
 
-        pub orphan-found : (n ≡ g.counts.inputs + g.counts.latches → ⊥) → check_seen BadArgument after ≡ reencode_checked g room marks
+        pub orphan_found : (n ≡ g.counts.inputs + g.counts.latches → ⊥) → check_seen BadArgument after ≡ reencode_checked g room marks
         unfolding asked_in
-        orphan-found m =
+        orphan_found m =
             let o : eqb (orphans g) 0 ≡ false = ne_eqb (orphans g) 0 (λ (z : orphans g ≡ 0). m (omega (arith, counted))) in
-            stands_so BadArgument (args-bad (limits_in room) (no_orphan g) g marks within a after seen (rw (zero, o))) (λ z. absurd (omega arith))
+            stands_so BadArgument (args_bad (limits_in room) (no_orphan g) g marks within a after seen (rw (zero, o))) (λ z. absurd (omega arith))
 
         module _ (m : n ≡ g.counts.inputs + g.counts.latches) where
           pub none_left : orphans g ≡ 0
@@ -82,18 +82,18 @@ module _ (g : Lent) (room : Counts) (marks : List ℕ) where
 
           asked : check_seen a after ≡ reencode_asked g room marks
           unfolding asked_in
-          asked = args-told (limits_in room) (no_orphan g) g marks within a after seen (rw (zero, eq-eqb (orphans g) 0 none_left))
+          asked = args_told (limits_in room) (no_orphan g) g marks within a after seen (rw (zero, eq-eqb (orphans g) 0 none_left))
 
           -- then the room decides
           last : reencode_checked g room marks ≡ record { given = cond (fits_in room g.counts) done no_room; marks = after }
           unfolding reencode_checked
           last = rw (← asked) (ap (λ (s : Given). record { given = s; marks = after }) (goes_past (told a) (cond (fits_in room g.counts) done no_room) (eqb-true (told a).number 0 zero)))
 
-          pub room-missed : {r : Bool} → r ≡ fits_in room g.counts → not r ≡ true → check_seen NoRoom after ≡ reencode_checked g room marks
-          room-missed {r} e k = let f : fits_in room g.counts ≡ false = sym e ∙ not-true r k in sym (last ∙ rw f)
+          pub room_missed : {r : Bool} → r ≡ fits_in room g.counts → not r ≡ true → check_seen NoRoom after ≡ reencode_checked g room marks
+          room_missed {r} e k = let f : fits_in room g.counts ≡ false = sym e ∙ not-true r k in sym (last ∙ rw f)
 
-          pub room-found : {r : Bool} → r ≡ fits_in room g.counts → not r ≡ false → check_seen a after ≡ reencode_checked g room marks
-          room-found {r} e k =
+          pub room_found : {r : Bool} → r ≡ fits_in room g.counts → not r ≡ false → check_seen a after ≡ reencode_checked g room marks
+          room_found {r} e k =
               let f : fits_in room g.counts ≡ true = sym e ∙ not-false r k in
               let t : told a ≡ done = given ∙ (exact g marks).accepts accepted.0 accepted.1 in
               rw t (sym (last ∙ rw f))
@@ -159,8 +159,8 @@ module _ (g out : Lent) (marks : List ℕ) (a : Answer) {after : List ℕ} (seen
     pub marks_cleared : after ≡ cleared g.counts.rows marks
     marks_cleared = marks_so ∙ checked_cleared g out marks number
 
-    pub call-ready : length after ≡ length marks → ReencodeReady g out after
-    call-ready l =
+    pub call_ready : length after ≡ length marks → ReencodeReady g out after
+    call_ready l =
         let t = checked_accepted g out marks number in
         record {
           marked = length marks;

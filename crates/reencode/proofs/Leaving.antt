@@ -72,13 +72,13 @@ module _ (g : Lent) (marks : ℕ) (s : Sized g marks) (w : WellFormed g) where
 
   -- ---- each listed id is a used leaf
   pub listed_leaf : (j : ℕ) → j < length (listed g) → UsedLeaf g (get_or (listed g) j 0)
-  listed_leaf j l = ⊎_elim in-inputs in-latches (lt_or_le j g.counts.inputs)
+  listed_leaf j l = ⊎_elim in_inputs in_latches (lt_or_le j g.counts.inputs)
     where
-      in-inputs : j < g.counts.inputs → UsedLeaf g (get_or (listed g) j 0)
-      in-inputs h = rw (input_at g.inputs g.counts.inputs g.latches g.counts.latches s.inputs.within j h) (w.inputs j h)
+      in_inputs : j < g.counts.inputs → UsedLeaf g (get_or (listed g) j 0)
+      in_inputs h = rw (input_at g.inputs g.counts.inputs g.latches g.counts.latches s.inputs.within j h) (w.inputs j h)
 
-      in-latches : g.counts.inputs ≤ j → UsedLeaf g (get_or (listed g) j 0)
-      in-latches h =
+      in_latches : g.counts.inputs ≤ j → UsedLeaf g (get_or (listed g) j 0)
+      in_latches h =
           let q : j ≡ g.counts.inputs + (j - g.counts.inputs) = omega arith in
           let k : j - g.counts.inputs < g.counts.latches = omega (arith, listed_long) in
           rw (q, latch_at_lem g.inputs g.counts.inputs g.latches g.counts.latches s.inputs.within (j - g.counts.inputs) k) (w.latches (j - g.counts.inputs) k)

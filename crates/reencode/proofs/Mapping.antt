@@ -55,8 +55,8 @@ module _ (g : Lent) (marks : ℕ) (s : Sized g marks) (w : WellFormed g) where
 
   -- ---- without orphans
   module _ (none : orphans g ≡ 0) where
-    pub leaf-listed : (x : ℕ) → UsedLeaf g x → member x (listed g) ≡ true
-    leaf-listed x t = go (member x (listed g)) (leaf_at g.rows x) (none_counted (orphan_at g) used none x t.0) t.1
+    pub leaf_listed : (x : ℕ) → UsedLeaf g x → member x (listed g) ≡ true
+    leaf_listed x t = go (member x (listed g)) (leaf_at g.rows x) (none_counted (orphan_at g) used none x t.0) t.1
       where
         go : (b a : Bool) → a && not b ≡ false → a ≡ true → b ≡ true
         go true a o e = refl
@@ -65,7 +65,7 @@ module _ (g : Lent) (marks : ℕ) (s : Sized g marks) (w : WellFormed g) where
 
     pub kind : (i : ℕ) → i < used → Kind g i
     kind i l =
-        ⊎_elim (λ p. ⊎_elim (λ h. leaf (stands i (listed g) (leaf-listed i (l, h)))) (λ h. gate_row h (new_gate i h)) (leaf_or_gate g marks s w i l p))
+        ⊎_elim (λ p. ⊎_elim (λ h. leaf (stands i (listed g) (leaf_listed i (l, h)))) (λ h. gate_row h (new_gate i h)) (leaf_or_gate g marks s w i l p))
         (λ z. let e : i ≡ 0 = omega arith in false_row e (rw e new_zero)) (lt_or_le 0 i)
       where
         leaf : Stands i (listed g) → Kind g i
@@ -76,8 +76,8 @@ module _ (g : Lent) (marks : ℕ) (s : Sized g marks) (w : WellFormed g) where
     total : used ≡ first_gate g.counts + gates_below g.rows used
     total = omega (arith, rows_counted g marks s w)
 
-    pub new-within : (i : ℕ) → i < used → new_id g i < used
-    new-within i l = go (kind i l)
+    pub new_within : (i : ℕ) → i < used → new_id g i < used
+    new_within i l = go (kind i l)
       where
         go : Kind g i → new_id g i < used
         go (false_row e q) = omega arith
@@ -85,8 +85,8 @@ module _ (g : Lent) (marks : ℕ) (s : Sized g marks) (w : WellFormed g) where
         go (gate_row h q) = omega (arith, total, count_past (gate_at g.rows) used i l h)
 
     -- a gate's number is above those of the rows before it
-    pub new-below : (i j : ℕ) → i < j → j < used → gate_at g.rows j ≡ true → new_id g i < new_id g j
-    new-below i j l u h = go (kind i (omega arith))
+    pub new_below : (i j : ℕ) → i < j → j < used → gate_at g.rows j ≡ true → new_id g i < new_id g j
+    new_below i j l u h = go (kind i (omega arith))
       where
         go : Kind g i → new_id g i < new_id g j
         go (false_row e q) = omega (arith, new_gate j h)
@@ -107,8 +107,8 @@ module _ (g : Lent) (marks : ℕ) (s : Sized g marks) (w : WellFormed g) where
         go (gate_row h p) (listed_row k' h' b q) = absurd (omega arith)
         go (gate_row h p) (gate_row h' q) = count_apart (gate_at g.rows) i j h h' (omega arith)
 
-    new-onto : (k : ℕ) → k < used → CameFrom (new_id g) used k
-    new-onto k l = ⊎_elim (λ p. ⊎_elim (leaf p) gate (lt_or_le k (first_gate g.counts))) (λ z. record { from = 0; within = omega arith; to = new_zero ∙ omega arith }) (lt_or_le 0 k)
+    new_onto : (k : ℕ) → k < used → CameFrom (new_id g) used k
+    new_onto k l = ⊎_elim (λ p. ⊎_elim (leaf p) gate (lt_or_le k (first_gate g.counts))) (λ z. record { from = 0; within = omega arith; to = new_zero ∙ omega arith }) (lt_or_le 0 k)
       where
         leaf : 0 < k → k < first_gate g.counts → CameFrom (new_id g) used k
         leaf p h =
@@ -121,4 +121,4 @@ module _ (g : Lent) (marks : ℕ) (s : Sized g marks) (w : WellFormed g) where
             record { from = c.at; within = c.within; to = new_gate c.at c.such ∙ omega (arith, c.count) }
 
     pub one_to_one : OneToOne (new_id g) used
-    one_to_one = record { within = new-within; apart = new_apart; onto = new-onto }
+    one_to_one = record { within = new_within; apart = new_apart; onto = new_onto }

@@ -21,7 +21,7 @@ use Rattle.reencode.specs.Rebuilding.{reencoded}
 use Rattle.reencode.specs.Call.{no_orphan, reencode_checked, reencode_call}
 use Rattle.reencode.specs.Meaning.{ReencodeRight}
 use Rattle.reencode.proofs.Call.{CallAccepted, checked_accepted, checked_accepts}
-use Rattle.reencode.proofs.Mapping.{leaf-listed}
+use Rattle.reencode.proofs.Mapping.{leaf_listed}
 use Rattle.reencode.proofs.Result.{renewed}
 use Rattle.reencode.proofs.Again.{settled}
 
@@ -49,7 +49,7 @@ module _ (g out : Lent) (marks : List ℕ) where
         accepts = λ l. checked_accepts g out marks
             (record { limited = limits_true out l.limited; sized = l.sized; well_formed = l.well_formed; no_orphan_lem = all_listed g l.no_orphan_lem; room = l.room });
         accepted = λ z. let a = what z in record
-            { limited = limited out a.limited; sized = a.sized; well_formed = a.well_formed; no_orphan_lem = leaf-listed g (length marks) a.sized a.well_formed a.no_orphan_lem; room = a.room };
+            { limited = limited out a.limited; sized = a.sized; well_formed = a.well_formed; no_orphan_lem = leaf_listed g (length marks) a.sized a.well_formed a.no_orphan_lem; room = a.room };
         answers = unfold reencode_checked asked_in in room_answers (names_refused g) (has_room out g.counts) (args_answers (limits out) (no_orphan g) g marks);
         refused = λ n. rw (ne_eqb (reencode_checked g (room_in out) marks).given.number 0 n);
         renews = λ z. let a = what z in rw (graph_done z) (renewed g out (length marks) a.sized a.well_formed a.no_orphan_lem a.room (limited out a.limited));

@@ -17,7 +17,7 @@ use Rattle.renumber.specs.Renumber.{ids_of, Lists, lists, lists_of, renumber, gr
 use Rattle.renumber.specs.Steps.{IdsReady, ListsReady}
 use Rattle.renumber.specs.Steps.{MarksHold, Small}
 use Rattle.output.proofs.Writing.{written_same}
-use Rattle.renumber.proofs.Mapping.{lists_used, lists_room, renumber_by, known, lists-ready}
+use Rattle.renumber.proofs.Mapping.{lists_used, lists_room, renumber_by, known, lists_ready}
 use Rattle.graph.specs.Count.{gates_below}
 use Rattle.reencode.specs.Numbers.{place_in, first_gate, numbered, number_of, new_id}
 use Rattle.reencode.specs.Steps.{placed}
@@ -54,16 +54,16 @@ module _ (rows inputs latches : List ℕ) (n : Counts) (marks : List ℕ) (r : R
     one_long : length one ≡ length marks
     one_long = ap length p ∙ placed_length marks input_id 1 n.inputs
 
-    pub latches-marked : IdsMarked one latch_id (1 + n.inputs) n.latches
-    latches-marked = record { marked = λ j l. omega (arith, latch_used j l, r.marks_long, one_long); few = omega (arith, r.few) }
+    pub latches_marked : IdsMarked one latch_id (1 + n.inputs) n.latches
+    latches_marked = record { marked = λ j l. omega (arith, latch_used j l, r.marks_long, one_long); few = omega (arith, r.few) }
 
     module _ {two : List ℕ} (q : two ≡ placed one latch_id (1 + n.inputs) n.latches) where
       two_long : length two ≡ length marks
       two_long = ap length q ∙ (placed_length one latch_id (1 + n.inputs) n.latches ∙ one_long)
 
       -- inputs, then latches: the listed leaves
-      both-placed : two ≡ placed marks (λ (j : ℕ). get_or list j 0) 1 (length list)
-      both-placed =
+      both_placed : two ≡ placed marks (λ (j : ℕ). get_or list j 0) 1 (length list)
+      both_placed =
           q ∙
           (ap (λ (x : List ℕ). placed x latch_id (1 + n.inputs) n.latches)
           (p ∙ placed_same marks input_id (λ (j : ℕ). get_or list j 0) 1 n.inputs (λ j l. sym (input_at inputs n.inputs latches n.latches r.inputs_long j l))) ∙
@@ -71,25 +71,25 @@ module _ (rows inputs latches : List ℕ) (n : Counts) (marks : List ℕ) (r : R
           (λ j l. sym (latch_at_lem inputs n.inputs latches n.latches r.inputs_long j l)) ∙
           (placed_split marks (λ (j : ℕ). get_or list j 0) 1 n.inputs n.latches ∙ ap (placed marks (λ (j : ℕ). get_or list j 0) 1) (sym long))))
 
-      leaves-held : MarksHold n.rows (place_in list) two
-      leaves-held x l = rw both-placed (places_hold n.rows marks list r.marks_long r.zeros r.used r.once x l)
+      leaves_held : MarksHold n.rows (place_in list) two
+      leaves_held x l = rw both_placed (places_hold n.rows marks list r.marks_long r.zeros r.used r.once x l)
 
       beyond : drop n.rows two ≡ drop n.rows marks
-      beyond = rw both-placed (placed_beyond n.rows marks (λ (j : ℕ). get_or list j 0) 1 (length list) r.used)
+      beyond = rw both_placed (placed_beyond n.rows marks (λ (j : ℕ). get_or list j 0) 1 (length list) r.used)
 
-      pub gates-ready : GatesReady rows n.rows (first_gate n) two
-      gates-ready =
+      pub gates_ready : GatesReady rows n.rows (first_gate n) two
+      gates_ready =
           record {
             rows_long = r.rows_long;
             marks_long = omega (arith, r.marks_long, two_long);
             few = r.few;
             used_few = r.rows_few;
-            small = numbered_small rows n.rows (first_gate n) (by two) r.few (λ x l. rw (leaves-held x l) (omega (arith, place_bound 1 list x, long, r.few)));
+            small = numbered_small rows n.rows (first_gate n) (by two) r.few (λ x l. rw (leaves_held x l) (omega (arith, place_bound 1 list x, long, r.few)));
           }
 
       same_number : (x : ℕ) → x < n.rows → numbered rows (first_gate n) (by two) x ≡ number_of rows inputs latches n x
       unfolding number_of
-      same_number x l = numbered_same rows (first_gate n) (by two) (place_in list) x (leaves-held x l)
+      same_number x l = numbered_same rows (first_gate n) (by two) (place_in list) x (leaves_held x l)
 
       -- what is written
       pub rows_written :
@@ -142,27 +142,27 @@ module _ (g out : Lent) (marks : List ℕ) (r : ReencodeReady g out marks) where
     long' : g.counts.rows ≤ length map
     long' = omega (arith, same, r.marks_long)
 
-    pub to-inputs : IdsReady map out.inputs 0 g.inputs g.counts.inputs
-    to-inputs =
+    pub to_inputs : IdsReady map out.inputs 0 g.inputs g.counts.inputs
+    to_inputs =
         record {
           room = omega (arith, r.room.inputs);
           has = r.sized.inputs.within;
           known = λ j l. known g.counts.rows (new_id g) map h small long' (get_or g.inputs j 0) (r.well_formed.inputs j l).0;
         }
 
-    pub to-lists : {at : Counts} → at ≡ no_counts → (at.edges < 2 ^ 32) × ListsReady map (lists_of out) at (lists_of g) g.counts
-    to-lists e =
+    pub to_lists : {at : Counts} → at ≡ no_counts → (at.edges < 2 ^ 32) × ListsReady map (lists_of out) at (lists_of g) g.counts
+    to_lists e =
         rw e (
           omega arith,
-          lists-ready g.counts.rows (new_id g) map h small long' (lists_of out) no_counts (lists_of g) g.counts (lists_used g r.marked r.sized r.well_formed)
+          lists_ready g.counts.rows (new_id g) map h small long' (lists_of out) no_counts (lists_of g) g.counts (lists_used g r.marked r.sized r.well_formed)
               (lists_room out g.counts r.room) (omega arith),
         )
 
-    pub all-written : {at : Counts} → at ≡ no_counts → {a b c d e f i j k : List ℕ} → a ≡ rows_of g.rows g.inputs g.latches g.counts out.rows
+    pub all_written : {at : Counts} → at ≡ no_counts → {a b c d e f i j k : List ℕ} → a ≡ rows_of g.rows g.inputs g.latches g.counts out.rows
         → b ≡ written out.inputs 0 (ids_of (by map) g.inputs) g.counts.inputs → lists c d e f i j k ≡ renumber (by map) (lists_of out) at (lists_of g) g.counts
         → lent a b c d e f i j k g.counts ≡ reencoded g out
     unfolding reencoded
-    all-written n {a} {b} p q t =
+    all_written n {a} {b} p q t =
         let q' = q ∙ written_same out.inputs 0 (ids_of (by map) g.inputs) (ids_of (new_id g) g.inputs) g.counts.inputs (λ j l. h (get_or g.inputs j 0) (r.well_formed.inputs j l).0) in
         let t' = t ∙ (ap (λ (x : Counts). renumber (by map) (lists_of out) x (lists_of g) g.counts) n
         ∙ renumber_by g.counts.rows (new_id g) map h (lists_of out) no_counts (lists_of g) g.counts (lists_used g r.marked r.sized r.well_formed)) in

@@ -38,7 +38,7 @@ use Rattle.reencode.specs.Rebuilding.{leaves_added, rows_of, reencoded}
 use Rattle.reencode.specs.Meaning.{InOrder, Renewed}
 use Rattle.reencode.proofs.Standing.{Row, leaves_long, zero_stands, leaf_stands, gates_long, below_stands, gate_stands}
 use Rattle.reencode.proofs.Leaving.{zero_no_leaf, zero_no_gate, leaf_gate, rows_counted}
-use Rattle.reencode.proofs.Mapping.{Kind, new_zero, new_listed, new_gate, kind, new-within, new-below, one_to_one}
+use Rattle.reencode.proofs.Mapping.{Kind, new_zero, new_listed, new_gate, kind, new_within, new_below, one_to_one}
 use Rattle.reencode.proofs.Mapping.{false_row, listed_row, gate_row}
 
 pub none_stays : (m : ℕ → ℕ) (e : ℕ) → e ≡ none → renamed m e ≡ none
@@ -118,7 +118,7 @@ module _ (g out : Lent) (marks : ℕ) (s : Sized g marks) (w : WellFormed g) (no
   edge_row e l = renamed_row m e (some e l)
 
   edge_used : (e : ℕ) → id_of e < used → id_of (renamed m e) < used
-  edge_used e l = rw (edge_row e l) (new-within g marks s w no (id_of e) l)
+  edge_used e l = rw (edge_row e l) (new_within g marks s w no (id_of e) l)
 
   -- ---- each row is carried over
   new_leaf_lem : (i : ℕ) → i < leaves → leaf_at rows (i + 1) ≡ true
@@ -127,8 +127,8 @@ module _ (g out : Lent) (marks : ℕ) (s : Sized g marks) (w : WellFormed g) (no
   new_gate_at : (i : ℕ) → i < used → gate_at g.rows i ≡ true → gate_at rows (m i) ≡ true
   new_gate_at i l h =
       let b = gate_below i (word0 g.rows i) (word1 g.rows i) h in
-      let x : id_of (renamed m (word0 g.rows i)) < m i = rw (edge_row (word0 g.rows i) (omega (arith, b.0))) (new-below g marks s w no (id_of (word0 g.rows i)) i b.0 l h) in
-      let y : id_of (renamed m (word1 g.rows i)) < m i = rw (edge_row (word1 g.rows i) (omega (arith, b.1))) (new-below g marks s w no (id_of (word1 g.rows i)) i b.1 l h) in
+      let x : id_of (renamed m (word0 g.rows i)) < m i = rw (edge_row (word0 g.rows i) (omega (arith, b.0))) (new_below g marks s w no (id_of (word0 g.rows i)) i b.0 l h) in
+      let y : id_of (renamed m (word1 g.rows i)) < m i = rw (edge_row (word1 g.rows i) (omega (arith, b.1))) (new_below g marks s w no (id_of (word1 g.rows i)) i b.1 l h) in
       let o = order_used (m i) (renamed m (word0 g.rows i)) (renamed m (word1 g.rows i)) x y in
       gate_words rows (m i) (firstEdge (renamed m (word0 g.rows i)) (renamed m (word1 g.rows i))) (secondEdge (renamed m (word0 g.rows i)) (renamed m (word1 g.rows i)))
       (gate_is i l h) o.0 o.1
@@ -145,7 +145,7 @@ module _ (g out : Lent) (marks : ℕ) (s : Sized g marks) (w : WellFormed g) (no
   carried =
       record {
         zero = new_zero g marks s w;
-        within = λ i l k. new-within g marks s w no i l;
+        within = λ i l k. new_within g marks s w no i l;
         leaves = λ i l k h. leaf_moved i l h;
         gates = λ i l k h. (new_gate_at i l h, rw ((gate_is i l h).first, (gate_is i l h).second) (ordered (renamed m (word0 g.rows i)) (renamed m (word1 g.rows i))).either);
         fanins = λ i l k h. let b = gate_below i (word0 g.rows i) (word1 g.rows i) h in (omega (arith, b.0), omega (arith, b.1));
@@ -231,13 +231,13 @@ module _ (g out : Lent) (marks : ℕ) (s : Sized g marks) (w : WellFormed g) (no
 
   pub listed_number : (j : ℕ) → j < leaves → get_or (listed new) j 0 ≡ 1 + j
   unfolding reencoded
-  listed_number j l = ⊎_elim in-inputs in-latches (lt_or_le j g.counts.inputs)
+  listed_number j l = ⊎_elim in_inputs in_latches (lt_or_le j g.counts.inputs)
     where
-      in-inputs : j < g.counts.inputs → get_or (listed new) j 0 ≡ 1 + j
-      in-inputs h = input_at new.inputs g.counts.inputs new.latches g.counts.latches inputs_fit j h ∙ input_number j h
+      in_inputs : j < g.counts.inputs → get_or (listed new) j 0 ≡ 1 + j
+      in_inputs h = input_at new.inputs g.counts.inputs new.latches g.counts.latches inputs_fit j h ∙ input_number j h
 
-      in-latches : g.counts.inputs ≤ j → get_or (listed new) j 0 ≡ 1 + j
-      in-latches h =
+      in_latches : g.counts.inputs ≤ j → get_or (listed new) j 0 ≡ 1 + j
+      in_latches h =
           let q : j ≡ g.counts.inputs + (j - g.counts.inputs) = omega arith in
           let k : j - g.counts.inputs < g.counts.latches = omega arith in
           ap (λ (i : ℕ). get_or (listed new) i 0) q
@@ -320,7 +320,7 @@ module _ (g out : Lent) (marks : ℕ) (s : Sized g marks) (w : WellFormed g) (no
       record {
         inputs = input_number;
         latches = latch_number;
-        gates = λ i j l u h. new-below g marks s w no i j l u h;
+        gates = λ i j l u h. new_below g marks s w no i j l u h;
         fanins = λ i u h. ⊎_elim (λ (l : i < first). absurd (false_true (sym (low_no_gate i l) ∙ h))) (λ (l : first ≤ i). gate_sorted i l u) (lt_or_le i first);
       }
 

@@ -34,15 +34,15 @@ module _ (rows : List ℕ) (i : ℕ) {t : Bool} (e : t ≡ gate_at rows i) where
       (record { edge = omega (arith, b.0); known = k (id_of (word0 rows i)) b.0 }, record { edge = omega (arith, b.1); known = k (id_of (word1 rows i)) b.1 })
 
   module _ (m : ℕ → ℕ) (k : ℕ) (out marks : List ℕ) where
-    pub gate-passed : not t ≡ true
+    pub gate_passed : not t ≡ true
         → (k ≡ cond (gate_at rows i) (k + 1) k) × ((out ≡ gate_added m rows i k out) × (marks ≡ cond (gate_at rows i) (set marks i k) marks))
     unfolding gate_added
-    gate-passed h = let g : gate_at rows i ≡ false = sym e ∙ not-true t h in rw g (refl, (refl, refl))
+    gate_passed h = let g : gate_at rows i ≡ false = sym e ∙ not-true t h in rw g (refl, (refl, refl))
 
-    pub gate-rebuilt : not t ≡ false → {x y : ℕ} {after : List ℕ} {r : Grown} → x ≡ renamed m (word0 rows i) → y ≡ renamed m (word1 rows i) → state_of after r ≡ add_gate out k x y
+    pub gate_rebuilt : not t ≡ false → {x y : ℕ} {after : List ℕ} {r : Grown} → x ≡ renamed m (word0 rows i) → y ≡ renamed m (word1 rows i) → state_of after r ≡ add_gate out k x y
         → (r.used ≡ cond (gate_at rows i) (k + 1) k) × ((after ≡ gate_added m rows i k out) × (set marks i k ≡ cond (gate_at rows i) (set marks i k) marks))
     unfolding gate_added add_gate
-    gate-rebuilt h p q s =
+    gate_rebuilt h p q s =
         let g = gate_is h in
         let s' = rw (p, q) at s in
         rw g (ap (λ (w : State). w.used) s, (ap (λ (w : State). w.rows) s', refl))

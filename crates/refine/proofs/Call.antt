@@ -31,7 +31,7 @@ use Rattle.renumber.specs.Steps.{FoundSeen, found_seen}
 use Rattle.refine.specs.Call.{refine_asked, refine_room, refine_answer, refine_call}
 use Rattle.refine.specs.Steps.{refine_checked}
 use Rattle.refine.specs.Meaning.{RefineLent}
-use Rattle.refine.proofs.Stepping.{ids-are-kept, kept-ids-long, need-is, same_long, write_ready, cleared_back}
+use Rattle.refine.proofs.Stepping.{ids_are_kept, kept_ids_long, need_is, same_long, write_ready, cleared_back}
 
 -- ---- answers 1 to 3
 asked_clears : (g : Lent) (room : Counts) (marks : List ℕ) → (refine_asked g room marks).given.number ≡ 0 → (refine_asked g room marks).marks ≡ cleared g.counts.rows marks
@@ -95,8 +95,8 @@ module _ (g : Lent) (room : Counts) (old : ℕ) (marks : List ℕ) (a : Answer) 
     part_long : length (take g.counts.rows after) ≡ g.counts.rows
     part_long = ap length part_zero ∙ length-replicate g.counts.rows 0
 
-    rest-kept : drop g.counts.rows after ≡ drop g.counts.rows marks
-    rest-kept = rw marks_are (drop_at (replicate g.counts.rows 0) (drop g.counts.rows marks) g.counts.rows (length-replicate g.counts.rows 0))
+    rest_kept : drop g.counts.rows after ≡ drop g.counts.rows marks
+    rest_kept = rw marks_are (drop_at (replicate g.counts.rows 0) (drop g.counts.rows marks) g.counts.rows (length-replicate g.counts.rows 0))
 
     -- the marks that are lent on, one for each used row
     pub record Lending : Type 0 where
@@ -132,23 +132,23 @@ module _ (g : Lent) (room : Counts) (old : ℕ) (marks : List ℕ) (a : Answer) 
 
     -- they hold the new numbers
     module _ {ids : List ℕ} (q : ids ≡ new_ids (kept_cone_of g)) where
-      numbers-are : ids ++ drop g.counts.rows after ≡ new_ids (kept_flags g) ++ drop g.counts.rows marks
-      numbers-are = rw (ids-are-kept g (take g.counts.rows after) lending.ready q, rest-kept)
+      numbers_are : ids ++ drop g.counts.rows after ≡ new_ids (kept_flags g) ++ drop g.counts.rows marks
+      numbers_are = rw (ids_are_kept g (take g.counts.rows after) lending.ready q, rest_kept)
 
-      pub numbers-cover : g.counts.rows ≤ length (ids ++ drop g.counts.rows after)
-      numbers-cover = omega (arith, length-append ids (drop g.counts.rows after), kept-ids-long g (take g.counts.rows after) lending.ready q)
+      pub numbers_cover : g.counts.rows ≤ length (ids ++ drop g.counts.rows after)
+      numbers_cover = omega (arith, length-append ids (drop g.counts.rows after), kept_ids_long g (take g.counts.rows after) lending.ready q)
 
       pub numbers_long : length (ids ++ drop g.counts.rows after) ≡ length after
       numbers_long =
-          omega (arith, length-append ids (drop g.counts.rows after), kept-ids-long g (take g.counts.rows after) lending.ready q, length-drop g.counts.rows after, lending.long)
+          omega (arith, length-append ids (drop g.counts.rows after), kept_ids_long g (take g.counts.rows after) lending.ready q, length-drop g.counts.rows after, lending.long)
 
       -- `all_fit` is what the tests say
       module _ {need : Counts} (n : need ≡ kept_counts (kept_cone_of g) g.inputs g.counts) {fits all_fit : Bool} (e : fits ≡ fits_in room need) (p : all_fit ≡ fits && leb need.rows old) where
         counts_are : need ≡ refined_counts g
-        counts_are = need-is g (take g.counts.rows after) lending.ready n
+        counts_are = need_is g (take g.counts.rows after) lending.ready n
 
-        room-is : all_fit ≡ refine_room g room old
-        room-is = p ∙ rw (e, counts_are)
+        room_is : all_fit ≡ refine_room g room old
+        room_is = p ∙ rw (e, counts_are)
 
         pub no_room_lem :
             not all_fit ≡ true → {last : List ℕ} → last ≡ cleared g.counts.rows (ids ++ drop g.counts.rows after) → record { given = told NoRoom; counts = g.counts; marks = last } ≡
@@ -156,12 +156,12 @@ module _ (g : Lent) (room : Counts) (old : ℕ) (marks : List ℕ) (a : Answer) 
         unfolding refine_checked
         no_room_lem f c =
             let t = asked_accepted true g room marks number in
-            let l = cleared_back g marks t.sized t.well_formed numbers-are c ∙ sym (asked_clears g room marks number) in
-            rw (answer_goes g room old marks number, sym room-is ∙ not-true all_fit f, l)
+            let l = cleared_back g marks t.sized t.well_formed numbers_are c ∙ sym (asked_clears g room marks number) in
+            rw (answer_goes g room old marks number, sym room_is ∙ not-true all_fit f, l)
 
         pub all_found : not all_fit ≡ false → record { given = told a; counts = need; marks = ids ++ drop g.counts.rows after } ≡ refine_checked g room old marks
         unfolding refine_checked
-        all_found f = rw (answer_goes g room old marks number, sym room-is ∙ not-false all_fit f, given, asked_done true g room marks number, counts_are, numbers-are)
+        all_found f = rw (answer_goes g room old marks number, sym room_is ∙ not-false all_fit f, given, asked_done true g room marks number, counts_are, numbers_are)
 
 -- ---- the call: r is what the check found, `after` are the marks, and d says whether the answer is done
 module _ (g out : Lent) (old marks : List ℕ) (r : Rebuilt) {after : List ℕ} (seen : found_seen r after ≡ refine_checked g (room_in out) (length old) marks) {d : Bool}
@@ -174,43 +174,43 @@ module _ (g out : Lent) (old marks : List ℕ) (r : Rebuilt) {after : List ℕ} 
     refusal : eqb (refine_answer g (room_in out) (length old) marks).number 0 ≡ false
     refusal = test_refused answer_is test h
 
-    pub counts-stay : r.counts ≡ g.counts
+    pub counts_stay : r.counts ≡ g.counts
     unfolding refine_checked
-    counts-stay = ap (λ (s : FoundSeen). s.counts) seen ∙ rw refusal
+    counts_stay = ap (λ (s : FoundSeen). s.counts) seen ∙ rw refusal
 
-    marks-asked : after ≡ (refine_asked g (room_in out) marks).marks
+    marks_asked : after ≡ (refine_asked g (room_in out) marks).marks
     unfolding refine_checked
-    marks-asked = ap (λ (s : FoundSeen). s.marks) seen ∙ rw refusal
+    marks_asked = ap (λ (s : FoundSeen). s.marks) seen ∙ rw refusal
 
-    pub refine-refused : record { given = told r.answer; graph = out; old = old; marks = after } ≡ refine_call g out old marks
+    pub refine_refused : record { given = told r.answer; graph = out; old = old; marks = after } ≡ refine_call g out old marks
     unfolding refine_call
-    refine-refused = rw (refusal, answer_is, marks-asked)
+    refine_refused = rw (refusal, answer_is, marks_asked)
 
   module _ (h : not d ≡ false) where
-    done-is : eqb (refine_answer g (room_in out) (length old) marks).number 0 ≡ true
-    done-is = test_done answer_is test h
+    done_is : eqb (refine_answer g (room_in out) (length old) marks).number 0 ≡ true
+    done_is = test_done answer_is test h
 
     right : RefineLent g out old marks
-    right = all_right g out old marks (eqb-true _ _ done-is)
+    right = all_right g out old marks (eqb-true _ _ done_is)
 
-    pub counts-found : r.counts ≡ refined_counts g
+    pub counts_found : r.counts ≡ refined_counts g
     unfolding refine_checked
-    counts-found = ap (λ (s : FoundSeen). s.counts) seen ∙ rw done-is
+    counts_found = ap (λ (s : FoundSeen). s.counts) seen ∙ rw done_is
 
-    marks-found : after ≡ new_ids (kept_flags g) ++ drop g.counts.rows marks
+    marks_found : after ≡ new_ids (kept_flags g) ++ drop g.counts.rows marks
     unfolding refine_checked
-    marks-found = ap (λ (s : FoundSeen). s.marks) seen ∙ rw done-is
+    marks_found = ap (λ (s : FoundSeen). s.marks) seen ∙ rw done_is
 
-    pub ready-to-write : WriteReady g out old after
-    ready-to-write = write_ready g marks right.sized right.well_formed marks-found out old right.room right.old_room
+    pub ready_to_write : WriteReady g out old after
+    ready_to_write = write_ready g marks right.sized right.well_formed marks_found out old right.room right.old_room
 
-    pub marks-cover : g.counts.rows ≤ length after
-    marks-cover = omega (arith, same_long g marks right.sized right.well_formed marks-found, right.sized.marked)
+    pub marks_cover : g.counts.rows ≤ length after
+    marks_cover = omega (arith, same_long g marks right.sized right.well_formed marks_found, right.sized.marked)
 
-    pub refine-done : {new : Lent} {rows-were last : List ℕ} → new ≡ refined g out → rows-were ≡ old_rows g old → last ≡ cleared g.counts.rows after
+    pub refine_done : {new : Lent} {rows-were last : List ℕ} → new ≡ refined g out → rows-were ≡ old_rows g old → last ≡ cleared g.counts.rows after
         → record { given = told r.answer; graph = new; old = rows-were; marks = last } ≡ refine_call g out old marks
     unfolding refine_call refine_answer
-    refine-done a b c =
-        let z = (none_of_two (refine_asked g (room_in out) marks).given (cond (refine_room g (room_in out) (length old)) done no_room) (eqb-true _ _ done-is)).0 in
-        let l = cleared_back g marks right.sized right.well_formed marks-found c ∙ sym (asked_clears g (room_in out) marks z) in
-        rw (done-is, answer_is, a, b, l)
+    refine_done a b c =
+        let z = (none_of_two (refine_asked g (room_in out) marks).given (cond (refine_room g (room_in out) (length old)) done no_room) (eqb-true _ _ done_is)).0 in
+        let l = cleared_back g marks right.sized right.well_formed marks_found c ∙ sym (asked_clears g (room_in out) marks z) in
+        rw (done_is, answer_is, a, b, l)

@@ -30,7 +30,7 @@ use Rattle.kept_rows.specs.Keeping.{kept_input, with_kept}
 use Rattle.kept_rows.specs.Copying.{rows_kept, inputs_kept}
 use Rattle.refine.specs.Refining.{is_kept, new_row, refined_counts, refined, old_rows}
 use Rattle.refine.specs.Meaning.{Kept, KeptEdges, input_place, Refined}
-use Rattle.refine.proofs.Result.{limit, coi, in_order, within, apart, some_row, named, carried, values, all_rows, inverse, input-from, entries}
+use Rattle.refine.proofs.Result.{limit, coi, in_order, within, apart, some_row, named, carried, values, all_rows, inverse, input_from, entries}
 use Rattle.refine.proofs.Standing.{words_long, rows_long}
 
 -- the none word stays
@@ -161,7 +161,7 @@ module _ (g out : Lent) (marks : ℕ) (s : Sized g marks) (w : WellFormed g) (ro
   -- what is listed at k is a listed id of g that is kept
   record From (k : ℕ) : Type 0 where
     at : ℕ
-    within-list : at < length (listed g)
+    within_list : at < length (listed g)
     goes : k ≡ place at
     kept : Kept g (get_or (listed g) at 0)
     same : get_or all k 0 ≡ m (get_or (listed g) at 0)
@@ -169,11 +169,11 @@ module _ (g out : Lent) (marks : ℕ) (s : Sized g marks) (w : WellFormed g) (ro
   from_input : (k : ℕ) → k < n' → From k
   unfolding place
   from_input k h =
-      let c = input-from g marks s w out room k h in
+      let c = input_from g marks s w out room k h in
       let e = input_at g.inputs n g.latches g.counts.latches s.inputs.within c.from c.within in
       record {
         at = c.from;
-        within-list = omega (arith, long_before, c.within);
+        within_list = omega (arith, long_before, c.within);
         goes = rw (lt-ltb c.from n c.within) (sym c.place);
         kept = rw e c.kept;
         same = input_at inputs n' new.latches g.counts.latches fit k h ∙ (c.same ∙ ap m (sym e));
@@ -185,7 +185,7 @@ module _ (g out : Lent) (marks : ℕ) (s : Sized g marks) (w : WellFormed g) (ro
       let e = latch_at_lem g.inputs n g.latches g.counts.latches s.inputs.within i h in
       record {
         at = n + i;
-        within-list = omega (arith, long_before);
+        within_list = omega (arith, long_before);
         goes = rw (le-ltb (n + i) n (omega arith)) (omega arith);
         kept = rw e ((named g marks s w).latches i h);
         same = latch_at_lem inputs n' new.latches g.counts.latches fit i h ∙ (input_entry i h ∙ ap m (sym e));
@@ -203,12 +203,12 @@ module _ (g out : Lent) (marks : ℕ) (s : Sized g marks) (w : WellFormed g) (ro
       let a = from i (omega arith) in
       let b = from j k in
       let x : get_or (listed g) a.at 0 ≡ get_or (listed g) b.at 0 = apart g marks s w (get_or (listed g) a.at 0) (get_or (listed g) b.at 0) a.kept b.kept (sym a.same ∙ (e ∙ b.same)) in
-      let y : i ≡ j = a.goes ∙ (ap place (one_place g w a.at b.at a.within-list b.within-list x) ∙ sym b.goes) in
+      let y : i ≡ j = a.goes ∙ (ap place (one_place g w a.at b.at a.within_list b.within_list x) ∙ sym b.goes) in
       omega arith
 
   -- ---- the whole
   new_input : (k : ℕ) → k < n' → (get_or inputs k 0 < used') × (leaf_at rows (get_or inputs k 0) ≡ true)
-  new_input k l = let c = input-from g marks s w out room k l in rw c.same (leaf_used (get_or g.inputs c.from 0) (w.inputs c.from c.within) c.kept)
+  new_input k l = let c = input_from g marks s w out room k l in rw c.same (leaf_used (get_or g.inputs c.from 0) (w.inputs c.from c.within) c.kept)
 
   new_well_formed : WellFormed new
   unfolding refined with_kept
@@ -243,7 +243,7 @@ module _ (g out : Lent) (marks : ℕ) (s : Sized g marks) (w : WellFormed g) (ro
         values = values g marks s w out room;
         named = named g marks s w;
         lists = lists;
-        inputs = λ k l. input-from g marks s w out room k l;
+        inputs = λ k l. input_from g marks s w out room k l;
         sized = new_sized;
         well_formed = new_well_formed;
       }

@@ -187,30 +187,30 @@ module _ (g : Lent) (marks : ℕ) (s : Sized g marks) (w : WellFormed g) where
     second_word i l k = rw (number i k) (second_at p m g.rows out.rows used i rows_room l (is_kept_lem i k))
 
     -- those of a row that is no gate stay
-    word-stays : (i x : ℕ) → gate_at g.rows i ≡ false → row_word m g.rows i x ≡ x
+    word_stays : (i x : ℕ) → gate_at g.rows i ≡ false → row_word m g.rows i x ≡ x
     unfolding row_word
-    word-stays i x h = rw h
+    word_stays i x h = rw h
 
-    word-renamed : (i x : ℕ) → gate_at g.rows i ≡ true → row_word m g.rows i x ≡ renamed m x
+    word_renamed : (i x : ℕ) → gate_at g.rows i ≡ true → row_word m g.rows i x ≡ renamed m x
     unfolding row_word
-    word-renamed i x h = rw h
+    word_renamed i x h = rw h
 
-    leaf-carried : (i : ℕ) → i < used → Kept g i → leaf_at g.rows i ≡ true → leaf_at rows (m i) ≡ true
-    leaf-carried i l k h =
+    leaf_carried : (i : ℕ) → i < used → Kept g i → leaf_at g.rows i ≡ true → leaf_at rows (m i) ≡ true
+    leaf_carried i l k h =
         let n = leaf_no_gate i (word0 g.rows i) (word1 g.rows i) (omega (arith, limit)) h in
         let z = in_order 0 i (leaf_some i (word0 g.rows i) (word1 g.rows i) h) zero_kept k in
-        rw (first_word i l k ∙ word-stays i (word0 g.rows i) n, second_word i l k ∙ word-stays i (word1 g.rows i) n)
+        rw (first_word i l k ∙ word_stays i (word0 g.rows i) n, second_word i l k ∙ word_stays i (word1 g.rows i) n)
         (is_leaf_lem i (m i) (word0 g.rows i) (word1 g.rows i) h (omega arith))
 
     -- an edge of a kept gate
     edge_below : (i x : ℕ) → i < used → Kept g i → id_of x < i → Kept g (id_of x) → renamed m x < 2 * m i
     edge_below i x l k h q = omega (arith, renamed_edge m x (λ (z : x ≡ none). absurd (omega (arith, limit))), in_order (id_of x) i h q k)
 
-    gate-carried : (i : ℕ) → i < used → Kept g i → gate_at g.rows i ≡ true → gate_at rows (m i) ≡ true
-    gate-carried i l k h =
+    gate_carried : (i : ℕ) → i < used → Kept g i → gate_at g.rows i ≡ true → gate_at rows (m i) ≡ true
+    gate_carried i l k h =
         let t = gate_below i (word0 g.rows i) (word1 g.rows i) h in
         let f = coi.closed i k h in
-        rw (first_word i l k ∙ word-renamed i (word0 g.rows i) h, second_word i l k ∙ word-renamed i (word1 g.rows i) h)
+        rw (first_word i l k ∙ word_renamed i (word0 g.rows i) h, second_word i l k ∙ word_renamed i (word1 g.rows i) h)
         (is_gate_lem (m i) (renamed m (word0 g.rows i)) (renamed m (word1 g.rows i)) (edge_below i (word0 g.rows i) l k t.0 f.0) (edge_below i (word1 g.rows i) l k t.1 f.1))
 
     pub carried : Carried (new_row g) (Kept g) g.rows used rows used'
@@ -218,8 +218,8 @@ module _ (g : Lent) (marks : ℕ) (s : Sized g marks) (w : WellFormed g) where
         record {
           zero = number_zero;
           within = within;
-          leaves = leaf-carried;
-          gates = λ i l k h. (gate-carried i l k h, inl (first_word i l k ∙ word-renamed i (word0 g.rows i) h, second_word i l k ∙ word-renamed i (word1 g.rows i) h));
+          leaves = leaf_carried;
+          gates = λ i l k h. (gate_carried i l k h, inl (first_word i l k ∙ word_renamed i (word0 g.rows i) h, second_word i l k ∙ word_renamed i (word1 g.rows i) h));
           fanins = λ i l k h. coi.closed i k h;
         }
 
@@ -232,8 +232,8 @@ module _ (g : Lent) (marks : ℕ) (s : Sized g marks) (w : WellFormed g) where
     row_carried : (i : ℕ) → i < used → Kept g i → row_at rows (m i) ≡ true
     unfolding is_row is_false_row
     row_carried i l k =
-        ⊎_elim (λ h. ⊎_elim zero_row (λ h. row_leaf (m i) (word0 rows (m i)) (word1 rows (m i)) (leaf-carried i l k h)) (either {a = is_false_row i (word0 g.rows i) (word1 g.rows i)} h))
-        (λ h. row_gate (m i) (word0 rows (m i)) (word1 rows (m i)) (gate-carried i l k h))
+        ⊎_elim (λ h. ⊎_elim zero_row (λ h. row_leaf (m i) (word0 rows (m i)) (word1 rows (m i)) (leaf_carried i l k h)) (either {a = is_false_row i (word0 g.rows i) (word1 g.rows i)} h))
+        (λ h. row_gate (m i) (word0 rows (m i)) (word1 rows (m i)) (gate_carried i l k h))
         (either {a = is_false_row i (word0 g.rows i) (word1 g.rows i) || is_leaf i (word0 g.rows i) (word1 g.rows i)} (w.rows i l))
       where
         zero_row : is_false_row i (word0 g.rows i) (word1 g.rows i) ≡ true → is_row (m i) (word0 rows (m i)) (word1 rows (m i)) ≡ true
@@ -243,8 +243,8 @@ module _ (g : Lent) (marks : ℕ) (s : Sized g marks) (w : WellFormed g) where
             let z : i ≡ 0 = eqb-true i 0 u.0 in
             let n : gate_at g.rows i ≡ false = rw z (zero_no_gate (word0 g.rows 0) (word1 g.rows 0)) in
             let q : m i ≡ 0 = ap m z ∙ number_zero in
-            let x = first_word i l k ∙ word-stays i (word0 g.rows i) n in
-            let y = second_word i l k ∙ word-stays i (word1 g.rows i) n in
+            let x = first_word i l k ∙ word_stays i (word0 g.rows i) n in
+            let y = second_word i l k ∙ word_stays i (word1 g.rows i) n in
             rw (x, y, u.1, t.1, eq-eqb (m i) 0 q)
 
     pub all_rows : AllRows rows used'
@@ -252,14 +252,14 @@ module _ (g : Lent) (marks : ℕ) (s : Sized g marks) (w : WellFormed g) where
 
     -- ---- the new-to-old list
     module _ (old : List ℕ) (old_room : (refined_counts g).rows ≤ length old) where
-      old-at : (i : ℕ) → i < used → Kept g i → get_or (old_rows g old) (new_row g i) 0 ≡ i
+      old_at : (i : ℕ) → i < used → Kept g i → get_or (old_rows g old) (new_row g i) 0 ≡ i
       unfolding old_rows with_kept
-      old-at i l k = rw (number i k) (word_at p (λ (j : ℕ). j) old used i old_room l (is_kept_lem i k))
+      old_at i l k = rw (number i k) (word_at p (λ (j : ℕ). j) old used i old_room l (is_kept_lem i k))
 
       pub inverse : Inverse g used' (old_rows g old)
       inverse =
           record {
-            back = old-at;
+            back = old_at;
             kept = λ k l. let c = came k l in subst (Kept g) (sym (stands k l)) (kept_is c.at c.such);
             forth = λ k l. let c = came k l in ap (new_row g) (stands k l) ∙ (number c.at (kept_is c.at c.such) ∙ c.count);
           }
@@ -267,7 +267,7 @@ module _ (g : Lent) (marks : ℕ) (s : Sized g marks) (w : WellFormed g) where
           stands : (k : ℕ) (l : k < used') → get_or (old_rows g old) k 0 ≡ (came k l).at
           stands k l =
               let c = came k l in
-              ap (λ (x : ℕ). get_or (old_rows g old) x 0) (sym (number c.at (kept_is c.at c.such) ∙ c.count)) ∙ old-at c.at c.within (kept_is c.at c.such)
+              ap (λ (x : ℕ). get_or (old_rows g old) x 0) (sym (number c.at (kept_is c.at c.such) ∙ c.count)) ∙ old_at c.at c.within (kept_is c.at c.such)
 
     -- ---- the inputs
     abbrev q : ℕ → Bool
@@ -280,8 +280,8 @@ module _ (g : Lent) (marks : ℕ) (s : Sized g marks) (w : WellFormed g) where
     abbrev inputs : List ℕ
     inputs = inputs_kept (is_kept g) (new_row g) g.inputs out.inputs g.counts.inputs
 
-    pub input-from : (k : ℕ) → k < count_below (kept_input (is_kept g) g.inputs) g.counts.inputs → InputFrom g inputs k
-    input-from k l =
+    pub input_from : (k : ℕ) → k < count_below (kept_input (is_kept g) g.inputs) g.counts.inputs → InputFrom g inputs k
+    input_from k l =
         let c = counted q g.counts.inputs k l in
         record {
           from = c.at;
@@ -292,11 +292,11 @@ module _ (g : Lent) (marks : ℕ) (s : Sized g marks) (w : WellFormed g) where
         }
 
     -- ---- the other lists
-    pub other-room : ListsRoom (lists_of out) no_counts g.counts
+    pub other_room : ListsRoom (lists_of out) no_counts g.counts
     unfolding with_kept
-    other-room =
+    other_room =
         let t = lists_room out (refined_counts g) room in
         record { latches = t.latches; constraints = t.constraints; bads = t.bads; outputs = t.outputs; ends = t.ends; edges = t.edges; fairness = t.fairness }
 
     pub entries : Renumbered (new_row g) no_counts (lists_of g) g.counts (renumber (new_row g) (lists_of out) no_counts (lists_of g) g.counts)
-    entries = renumbered (new_row g) (lists_of out) no_counts (lists_of g) g.counts other-room
+    entries = renumbered (new_row g) (lists_of out) no_counts (lists_of g) g.counts other_room

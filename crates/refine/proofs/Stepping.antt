@@ -20,7 +20,7 @@ use Rattle.renumber.specs.Steps.{ListsReady}
 use Rattle.renumber.specs.Steps.{MarksHold, Small}
 use Rattle.output.specs.Room.{Room}
 use Rattle.graph.proofs.Counting.{count_same}
-use Rattle.renumber.proofs.Mapping.{lists_used, lists_room, renumber_by, known, lists-ready}
+use Rattle.renumber.proofs.Mapping.{lists_used, lists_room, renumber_by, known, lists_ready}
 use Rattle.kept_rows.specs.Kept.{kept_flags}
 use Rattle.kept_rows.specs.Steps.{kept_cone_of}
 use Rattle.kept_rows.specs.Keeping.{word_put, kept_row, kept_id, new_ids, numbered, kept_input, with_kept, kept_counts}
@@ -58,21 +58,21 @@ module _ (g : Lent) (marks : List ℕ) (r : RefineReady g marks) where
 
   -- the marks, once they hold the numbers
   module _ {ids : List ℕ} (q : ids ≡ new_ids (kept_cone_of g)) where
-    pub ids-are-kept : ids ≡ new_ids (kept_flags g)
-    ids-are-kept = q ∙ ap new_ids cone_is
+    pub ids_are_kept : ids ≡ new_ids (kept_flags g)
+    ids_are_kept = q ∙ ap new_ids cone_is
 
-    kept-long : length (kept_flags g) ≡ g.counts.rows
-    kept-long = (kept_coi g (length marks) r.sized r.well_formed).one_each.long
+    kept_long : length (kept_flags g) ≡ g.counts.rows
+    kept_long = (kept_coi g (length marks) r.sized r.well_formed).one_each.long
 
-    kept-first : Flagged (kept_flags g) 0
-    kept-first = (kept_coi g (length marks) r.sized r.well_formed).reached 0 always
+    kept_first : Flagged (kept_flags g) 0
+    kept_first = (kept_coi g (length marks) r.sized r.well_formed).reached 0 always
 
-    pub kept-ids-long : length ids ≡ g.counts.rows
-    kept-ids-long = ap length ids-are-kept ∙ (ids_long (kept_flags g) kept-first ∙ kept-long)
+    pub kept_ids_long : length ids ≡ g.counts.rows
+    kept_ids_long = ap length ids_are_kept ∙ (ids_long (kept_flags g) kept_first ∙ kept_long)
 
   module _ {need : Counts} (e : need ≡ kept_counts (kept_cone_of g) g.inputs g.counts) where
-    pub need-is : need ≡ refined_counts g
-    need-is = e ∙ ap (λ (f : List ℕ). kept_counts f g.inputs g.counts) cone_is
+    pub need_is : need ≡ refined_counts g
+    need_is = e ∙ ap (λ (f : List ℕ). kept_counts f g.inputs g.counts) cone_is
 
 -- ---- marks that hold the numbers of a well_formed graph's kept rows
 module _ (g : Lent) (marks : List ℕ) (s : Sized g (length marks)) (w : WellFormed g) {after : List ℕ} (e : after ≡ new_ids (kept_flags g) ++ drop g.counts.rows marks) where
@@ -150,7 +150,7 @@ module _ (g out : Lent) (old map : List ℕ) (r : WriteReady g out old map) wher
   pub all_ready : ListsReady map (lists_of out) no_counts (lists_of g) g.counts
   unfolding with_kept
   all_ready =
-      lists-ready used (kept_id flags) map r.holds small r.sized.marked (lists_of out) no_counts (lists_of g) g.counts (lists_used g (length map) r.sized r.well_formed)
+      lists_ready used (kept_id flags) map r.holds small r.sized.marked (lists_of out) no_counts (lists_of g) g.counts (lists_used g (length map) r.sized r.well_formed)
       (let t = lists_room out (refined_counts g) r.room in record
       { latches = t.latches; constraints = t.constraints; bads = t.bads; outputs = t.outputs; ends = t.ends; edges = t.edges; fairness = t.fairness }) (omega arith)
 

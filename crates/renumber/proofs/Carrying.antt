@@ -45,8 +45,8 @@ module _ (m : ℕ → ℕ) (Kept : ℕ → Type 0) (old : List ℕ) (used : ℕ)
     abbrev leaf' : ℕ → Bool
     leaf' j = leaf (m j)
 
-    edge-step : (e : ℕ) → id_of e < used → value new leaf (m (id_of e)) ≡ value old leaf' (id_of e) → edge_value (value new leaf) (renamed m e) ≡ edge_value (value old leaf') e
-    edge-step e l h = renamed_value m (value new leaf) (value old leaf') e (some e l) h
+    edge_step : (e : ℕ) → id_of e < used → value new leaf (m (id_of e)) ≡ value old leaf' (id_of e) → edge_value (value new leaf) (renamed m e) ≡ edge_value (value old leaf') e
+    edge_step e l h = renamed_value m (value new leaf) (value old leaf') e (some e l) h
 
     -- a row, where the kept rows below it agree
     row_step : (i : ℕ) → i < used → Kept i → ((j : ℕ) → j < i → Kept j → value new leaf (m j) ≡ value old leaf' j) → value new leaf (m i) ≡ value old leaf' i
@@ -71,8 +71,8 @@ module _ (m : ℕ → ℕ) (Kept : ℕ → Type 0) (old : List ℕ) (used : ℕ)
             let g = c.gates i l k h in
             let l0 : id_of (word0 old i) < used = omega (arith, t.0) in
             let l1 : id_of (word1 old i) < used = omega (arith, t.1) in
-            let p = edge-step (word0 old i) l0 (below (id_of (word0 old i)) t.0 f.0) in
-            let q = edge-step (word1 old i) l1 (below (id_of (word1 old i)) t.1 f.1) in
+            let p = edge_step (word0 old i) l0 (below (id_of (word0 old i)) t.0 f.0) in
+            let q = edge_step (word1 old i) l1 (below (id_of (word1 old i)) t.1 f.1) in
             value_gate new leaf (m i) g.0 ∙
             (⊎_elim
             (λ (s : (word0 new (m i) ≡ renamed m (word0 old i)) × (word1 new (m i) ≡ renamed m (word1 old i))). ap₂ ◌&&◌ (ap (edge_value (value new leaf)) s.0 ∙ p)
@@ -89,5 +89,5 @@ module _ (m : ℕ → ℕ) (Kept : ℕ → Type 0) (old : List ℕ) (used : ℕ)
   same_values =
       record {
         rows = λ leaf i l k. below leaf (suc i) i (omega arith) l k;
-        edges = λ leaf e l k. edge-step leaf e l (below leaf (suc (id_of e)) (id_of e) (omega arith) l k);
+        edges = λ leaf e l k. edge_step leaf e l (below leaf (suc (id_of e)) (id_of e) (omega arith) l k);
       }

@@ -104,11 +104,11 @@ module _ (used : ℕ) (m : ℕ → ℕ) (map : List ℕ) (h : MarksHold used m m
     mapped e (inl q) n = absurd (n q)
     mapped e (inr l) n = known (id_of e) l
 
-    pub edges-ready : (out : List ℕ) (at : ℕ) (list : List ℕ) (n : ℕ) → UsedEdges used list n → at + n ≤ length out → EdgesReady map out at list n
-    edges-ready out at list n u r = record { room = r; has = u.has; mapped = λ j l. mapped (get_or list j 0) (inr (u.below j l)) }
+    pub edges_ready : (out : List ℕ) (at : ℕ) (list : List ℕ) (n : ℕ) → UsedEdges used list n → at + n ≤ length out → EdgesReady map out at list n
+    edges_ready out at list n u r = record { room = r; has = u.has; mapped = λ j l. mapped (get_or list j 0) (inr (u.below j l)) }
 
-    pub lists-ready : (out : Lists) (at : Counts) (from : Lists) (n : Counts) → ListsUsed used from n → ListsRoom out at n → at.edges < 2 ^ 31 → ListsReady map out at from n
-    lists-ready out at from n u r few =
+    pub lists_ready : (out : Lists) (at : Counts) (from : Lists) (n : Counts) → ListsUsed used from n → ListsRoom out at n → at.edges < 2 ^ 31 → ListsReady map out at from n
+    lists_ready out at from n u r few =
         record {
           latches = record {
             room = r.latches;
@@ -119,10 +119,10 @@ module _ (used : ℕ) (m : ℕ → ℕ) (map : List ℕ) (h : MarksHold used m m
               init = mapped (latch_at from.latches j).init t.init;
             };
           };
-          constraints = edges-ready out.constraints at.constraints from.constraints n.constraints u.constraints r.constraints;
-          bads = edges-ready out.bads at.bads from.bads n.bads u.bads r.bads;
-          outputs = edges-ready out.outputs at.outputs from.outputs n.outputs u.outputs r.outputs;
+          constraints = edges_ready out.constraints at.constraints from.constraints n.constraints u.constraints r.constraints;
+          bads = edges_ready out.bads at.bads from.bads n.bads u.bads r.bads;
+          outputs = edges_ready out.outputs at.outputs from.outputs n.outputs u.outputs r.outputs;
           ends = record { room = r.ends; has = u.ends_has; words = λ j l. omega (arith, u.ends j l, u.few) };
-          edges = edges-ready out.edges at.edges from.edges n.edges u.edges r.edges;
-          fairness = edges-ready out.fairness at.fairness from.fairness n.fairness u.fairness r.fairness;
+          edges = edges_ready out.edges at.edges from.edges n.edges u.edges r.edges;
+          fairness = edges_ready out.fairness at.fairness from.fairness n.fairness u.fairness r.fairness;
         }

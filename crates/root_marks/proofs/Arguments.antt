@@ -35,13 +35,13 @@ module _ (good : ℕ → Bool) (xs : List ℕ) (i : ℕ) where
     cons : drop i xs ≡ get_or xs i 0 ∷ drop (i + 1) xs
     cons = rw (add-one, drop-cons xs i 0)
 
-    pub every-stops : good (get_or xs i 0) ≡ false → every good (drop i xs) ≡ false
+    pub every_stops : good (get_or xs i 0) ≡ false → every good (drop i xs) ≡ false
     unfolding every
-    every-stops h = rw (cons, h)
+    every_stops h = rw (cons, h)
 
-    pub every-goes : good (get_or xs i 0) ≡ true → every good (drop i xs) ≡ every good (drop (i + 1) xs)
+    pub every_goes : good (get_or xs i 0) ≡ true → every good (drop i xs) ≡ every good (drop (i + 1) xs)
     unfolding every
-    every-goes h = rw (cons, h)
+    every_goes h = rw (cons, h)
 
 -- each entry by its place
 pub every_at : (good : ℕ → Bool) (xs : List ℕ) → every good xs ≡ true → (k : ℕ) → k < length xs → good (get_or xs k 0) ≡ true
@@ -119,18 +119,18 @@ module _ (room good : Bool) (g : Lent) (marks : List ℕ) where
     kept : after ≡ (check_call g marks).marks
     kept = ap (λ (s : CheckSeen). s.marks) seen
 
-    pub args-bad : eqb (told a).number 0 && not good ≡ true → check_seen BadArgument after ≡ args_call room good g marks
+    pub args_bad : eqb (told a).number 0 && not good ≡ true → check_seen BadArgument after ≡ args_call room good g marks
     unfolding args_call or_else
-    args-bad h = rw (e, ← given, ← kept) (go (eqb (told a).number 0) good h)
+    args_bad h = rw (e, ← given, ← kept) (go (eqb (told a).number 0) good h)
       where
         go : (d o : Bool) → d && not o ≡ true → check_seen BadArgument after ≡ record { given = cond d (cond o done bad_argument) (told a); marks = after }
         go true false h = refl
         go true true h = absurd (false_true h)
         go false o h = absurd (false_true h)
 
-    pub args-told : eqb (told a).number 0 && not good ≡ false → check_seen a after ≡ args_call room good g marks
+    pub args_told : eqb (told a).number 0 && not good ≡ false → check_seen a after ≡ args_call room good g marks
     unfolding args_call or_else
-    args-told h = rw (e, ← given, ← kept) (ap (λ (t : Given). record { given = t; marks = after }) (go (eqb (told a).number 0) good refl h))
+    args_told h = rw (e, ← given, ← kept) (ap (λ (t : Given). record { given = t; marks = after }) (go (eqb (told a).number 0) good refl h))
       where
         is_done : (check_call g marks).given.number ≡ 0 → (check_call g marks).given ≡ done
         is_done z = let t = (exact g marks).accepted z in (exact g marks).accepts t.0 t.1

@@ -79,8 +79,8 @@ module _ (rows flags : List ℕ) (closed : Closed rows flags) where
 
   -- the values of its rows depend only on them
   module _ (other : List ℕ) (leaf leaf' : ℕ → Bool) (agree : AgreeOn flags rows other leaf leaf') where
-    pub same-value : (i : ℕ) → Flagged flags i → value rows leaf i ≡ value other leaf' i
-    same-value i m = (local rows other leaf leaf').by_cone i (λ j r. agree j (cone_flagged j r m))
+    pub same_value : (i : ℕ) → Flagged flags i → value rows leaf i ≡ value other leaf' i
+    same_value i m = (local rows other leaf leaf').by_cone i (λ j r. agree j (cone_flagged j r m))
 
 -- an edge has the value that its row gives it
 pub same_edge : (v w : ℕ → Bool) (e : ℕ) → v (id_of e) ≡ w (id_of e) → edge_value v e ≡ edge_value w e

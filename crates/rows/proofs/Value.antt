@@ -116,15 +116,15 @@ module _ (rows other : List ℕ) (leaf leaf' : ℕ → Bool) where
       same : gate_at rows i ≡ gate_at other i
       same = ap₂ (is_gate i) (a i here).first (a i here).second
 
-      same-leaf : leaf_at rows i ≡ leaf_at other i
-      same-leaf = ap₂ (is_leaf i) (a i here).first (a i here).second
+      same_leaf : leaf_at rows i ≡ leaf_at other i
+      same_leaf = ap₂ (is_leaf i) (a i here).first (a i here).second
 
       leaves : (t : Bool) → leaf_at rows i ≡ t → cond t (leaf i) false ≡ cond t (leaf' i) false
       leaves true h = (a i here).chosen h
       leaves false h = refl
 
       go : (t : Bool) → gate_at rows i ≡ t → value rows leaf i ≡ value other leaf' i
-      go false g = value_other rows leaf i g ∙ (leaves (leaf_at rows i) refl ∙ (ap (λ (t : Bool). cond t (leaf' i) false) same-leaf ∙ sym (value_other other leaf' i (sym same ∙ g))))
+      go false g = value_other rows leaf i g ∙ (leaves (leaf_at rows i) refl ∙ (ap (λ (t : Bool). cond t (leaf' i) false) same_leaf ∙ sym (value_other other leaf' i (sym same ∙ g))))
       go true g =
           let h = gate_below i (word0 rows i) (word1 rows i) g in
           value_gate rows leaf i g

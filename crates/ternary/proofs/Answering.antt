@@ -55,28 +55,28 @@ module _ (values : List ℕ) (used : ℕ) where
 
   module _ (e : ℕ) where
     -- the row of a used edge has a byte
-    pub value-at : eqb used 0 || ltb (length values) used ≡ false → used_edge used e ≡ true → id_of e < length values
-    value-at h u = omega (arith, value_room h, ltb-true (id_of e) used u)
+    pub value_at : eqb used 0 || ltb (length values) used ≡ false → used_edge used e ≡ true → id_of e < length values
+    value_at h u = omega (arith, value_room h, ltb-true (id_of e) used u)
 
-    pub value-sizes : eqb used 0 || ltb (length values) used ≡ true → value_refused bad_sizes ≡ value_call values used e
+    pub value_sizes : eqb used 0 || ltb (length values) used ≡ true → value_refused bad_sizes ≡ value_call values used e
     unfolding value_call value_given
-    value-sizes h = rw (no_room_lem (eqb used 0) (ltb (length values) used) refl refl h)
+    value_sizes h = rw (no_room_lem (eqb used 0) (ltb (length values) used) refl refl h)
 
     module _ (h : eqb used 0 || ltb (length values) used ≡ false) where
-      pub value-unused : used_edge used e ≡ false → value_refused bad_argument ≡ value_call values used e
+      pub value_unused : used_edge used e ≡ false → value_refused bad_argument ≡ value_call values used e
       unfolding value_call value_given
-      value-unused u = rw (room (eqb used 0) (ltb (length values) used) refl refl h, u)
+      value_unused u = rw (room (eqb used 0) (ltb (length values) used) refl refl h, u)
 
       module _ (u : used_edge used e ≡ true) where
-        pub value-code : 2 < get_or values (id_of e) 0 → value_refused bad_argument ≡ value_call values used e
+        pub value_code : 2 < get_or values (id_of e) 0 → value_refused bad_argument ≡ value_call values used e
         unfolding value_call value_given
-        value-code l =
+        value_code l =
             let m : 3 ≤ get_or values (id_of e) 0 = omega arith in
             rw (room (eqb used 0) (ltb (length values) used) refl refl h, u, le-ltb _ _ m)
 
-        pub value-done : get_or values (id_of e) 0 ≤ 2 → (v : ℕ) → v ≡ edge3 values e → record { given = done; value = v } ≡ value_call values used e
+        pub value_done : get_or values (id_of e) 0 ≤ 2 → (v : ℕ) → v ≡ edge3 values e → record { given = done; value = v } ≡ value_call values used e
         unfolding value_call value_given
-        value-done l v q =
+        value_done l v q =
             let m : get_or values (id_of e) 0 < 3 = omega arith in
             rw (room (eqb used 0) (ltb (length values) used) refl refl h, u, lt-ltb _ _ m, q)
 
@@ -164,9 +164,9 @@ module _ (g : Lent) (input state values marks : List ℕ) where
 
   module _ (room : g.counts.rows ≤ length values) (r : Answer) (after : List ℕ) (seen : check_seen r after ≡ check_call g marks) where
     -- what the check refuses
-    pub run-refused : eqb (told r).number 0 ≡ false → run_seen r values after ≡ run_call g input state values marks
+    pub run_refused : eqb (told r).number 0 ≡ false → run_seen r values after ≡ run_call g input state values marks
     unfolding run_call check_call simulate_answer or_else
-    run-refused n = rw (le-leb _ _ room) (go (sizes_right g (length marks)) seen)
+    run_refused n = rw (le-leb _ _ room) (go (sizes_right g (length marks)) seen)
       where
         go : (t : Bool) → check_seen r after ≡ cond t (seen_right g marks) (seen_wrong g marks) → run_seen r values after ≡ cond t ran unsized
         go true e =
@@ -183,25 +183,25 @@ module _ (g : Lent) (input state values marks : List ℕ) where
       number_zero : (check_call g marks).given.number ≡ 0
       number_zero = ap (λ (x : CheckSeen). x.given.number) (sym seen) ∙ eqb-true _ _ d
 
-      after-cleared : after ≡ cleared g.counts.rows marks
-      after-cleared = ap (λ (x : CheckSeen). x.marks) seen ∙ (checked g marks number_zero).after
+      after_cleared : after ≡ cleared g.counts.rows marks
+      after_cleared = ap (λ (x : CheckSeen). x.marks) seen ∙ (checked g marks number_zero).after
 
       -- 4
-      pub run-argument : arguments_right g.counts.inputs g.counts.latches input state ≡ false → run_seen BadArgument values after ≡ run_call g input state values marks
+      pub run_argument : arguments_right g.counts.inputs g.counts.latches input state ≡ false → run_seen BadArgument values after ≡ run_call g input state values marks
       unfolding run_call simulate_answer or_else
-      run-argument n =
+      run_argument n =
           let c = checked g marks number_zero in
-          rw (le-leb _ _ room, c.sizes, after-cleared, eq-eqb _ _ c.clean, n)
+          rw (le-leb _ _ room, c.sizes, after_cleared, eq-eqb _ _ c.clean, n)
 
       module _ (a : arguments_right g.counts.inputs g.counts.latches input state ≡ true) where
-        pub run-done : (values' : List ℕ) → values' ≡ written g input state values → run_seen Done values' after ≡ run_call g input state values marks
+        pub run_done : (values' : List ℕ) → values' ≡ written g input state values → run_seen Done values' after ≡ run_call g input state values marks
         unfolding run_call simulate_answer or_else
-        run-done values' w =
+        run_done values' w =
             let c = checked g marks number_zero in
-            rw (w, le-leb _ _ room, c.sizes, after-cleared, eq-eqb _ _ c.clean, a)
+            rw (w, le-leb _ _ room, c.sizes, after_cleared, eq-eqb _ _ c.clean, a)
 
-        pub run-accepted : Accepted g input state values marks
-        run-accepted = accept g input state values marks room number_zero a
+        pub run_accepted : Accepted g input state values marks
+        run_accepted = accept g input state values marks room number_zero a
 
 -- ---- done exactly where everything is as it must be
 module _ (g : Lent) (input state values marks : List ℕ) where
@@ -306,25 +306,25 @@ module _ (g : Lent) (input state values marks : List ℕ) (r : Answer) (values' 
   step_refused n = rw (← seen, n)
 
   module _ (d : eqb (told r).number 0 ≡ true) where
-    pub step-accepted : Accepted g input state values marks
-    step-accepted = accepted g input state values marks (ap (λ (x : RunSeen). x.given.number) (sym seen) ∙ eqb-true _ _ d)
+    pub step_accepted : Accepted g input state values marks
+    step_accepted = accepted g input state values marks (ap (λ (x : RunSeen). x.given.number) (sym seen) ∙ eqb-true _ _ d)
 
-    step-values : values' ≡ written g input state values
-    step-values = ap (λ (x : RunSeen). x.values) (seen ∙ accepts g input state values marks step-accepted)
+    step_values : values' ≡ written g input state values
+    step_values = ap (λ (x : RunSeen). x.values) (seen ∙ accepts g input state values marks step_accepted)
 
     -- each next's row has a value
-    pub step-within : Within (next_row g.latches) g.counts.latches (length values')
-    step-within i l =
-        let h = step-accepted.formed.nexts i l in
-        rw (step-values, length-append (run g input state) (drop g.counts.rows values), run_long g input state) (omega arith)
+    pub step_within : Within (next_row g.latches) g.counts.latches (length values')
+    step_within i l =
+        let h = step_accepted.formed.nexts i l in
+        rw (step_values, length-append (run g input state) (drop g.counts.rows values), run_long g input state) (omega arith)
 
-    step-next : nexts g.latches values' g.counts.latches ++ drop g.counts.latches state ≡ next g input state
-    step-next =
-        let h : length state ≤ g.counts.latches = omega (arith, step-accepted.state_long) in
-        let n = nexts_front g.latches (run g input state) (drop g.counts.rows values) g.counts.latches (λ i l. rw (run_long g input state) (step-accepted.formed.nexts i l)) in
-        rw (step-values, n, drop_of_length-le state h) (append-nil (next g input state))
+    step_next : nexts g.latches values' g.counts.latches ++ drop g.counts.latches state ≡ next g input state
+    step_next =
+        let h : length state ≤ g.counts.latches = omega (arith, step_accepted.state_long) in
+        let n = nexts_front g.latches (run g input state) (drop g.counts.rows values) g.counts.latches (λ i l. rw (run_long g input state) (step_accepted.formed.nexts i l)) in
+        rw (step_values, n, drop_of_length-le state h) (append-nil (next g input state))
 
-    pub step-done : (state' : List ℕ) → state' ≡ nexts g.latches values' g.counts.latches ++ drop g.counts.latches state
+    pub step_done : (state' : List ℕ) → state' ≡ nexts g.latches values' g.counts.latches ++ drop g.counts.latches state
         → step_seen r state' values' marks' ≡ step_call g input state values marks
     unfolding step_call
-    step-done state' e = rw (← seen, d, e ∙ step-next)
+    step_done state' e = rw (← seen, d, e ∙ step_next)

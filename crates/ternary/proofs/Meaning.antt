@@ -26,7 +26,7 @@ use Rattle.ternary_run.specs.Run.{placed, input_row, latch_row, next_row, row3, 
 use Rattle.ternary.specs.Rules.{Listed}
 use Rattle.ternary.specs.Meaning.{code_of, Agrees, Known, NoOrphan, Chosen, Means, Trace, AllKnown, Frames, truths, Traced, Whole, M7, RunRight, Steps, Inputs}
 use Rattle.ternary_run.proofs.Running.{nexts_at, leaves_codes, rows_codes, nexts_long}
-use Rattle.ternary.proofs.Rules.{obeys, leaf_codes, run_gate, run_other, row_kind, listed_later, leaf-has, leaf-listed, blank-later, leaf-zero}
+use Rattle.ternary.proofs.Rules.{obeys, leaf_codes, run_gate, run_other, row_kind, listed_later, leaf_has, leaf_listed, blank_later, leaf_zero}
 use Rattle.edge.specs.Answers.{done}
 use Rattle.graph.specs.Check.{cleared}
 use Rattle.ternary.specs.Calls.{written, StepSeen, step_call, step_calls, Accepted}
@@ -134,27 +134,27 @@ module _ (g : Lent) (m : ℕ) (size : Sized g m) (w : WellFormed g) where
 
   module _ (input state : List ℕ) (leaf : ℕ → Bool) (chosen : Chosen g input state leaf) where
     zero_is : Is (get_or (leaf_codes g input state) 0 0) (value g.rows leaf 0)
-    zero_is = leaf-zero g m size w input state ∙ sym (ap code_of (value_zero g.rows leaf))
+    zero_is = leaf_zero g m size w input state ∙ sym (ap code_of (value_zero g.rows leaf))
 
-    leaf-agrees : (j : ℕ) → j < g.counts.rows → leaf_at g.rows j ≡ true → Agrees (get_or (leaf_codes g input state) j 0) (value g.rows leaf j)
-    leaf-agrees j l h =
+    leaf_agrees : (j : ℕ) → j < g.counts.rows → leaf_at g.rows j ≡ true → Agrees (get_or (leaf_codes g input state) j 0) (value g.rows leaf j)
+    leaf_agrees j l h =
         rw (value_leaf g.rows g.counts.rows leaf limit j l h)
-        (leaf-has g m size w input state (λ (c : ℕ). Agrees c (leaf j)) j (λ i k e. rw (← e) (chosen.inputs i k)) (λ i k e. rw (← e) (chosen.latches i k))
-        (inl (blank-later g m size w input state j l (listed_later g m size w j h))))
+        (leaf_has g m size w input state (λ (c : ℕ). Agrees c (leaf j)) j (λ i k e. rw (← e) (chosen.inputs i k)) (λ i k e. rw (← e) (chosen.latches i k))
+        (inl (blank_later g m size w input state j l (listed_later g m size w j h))))
 
-    other-agrees : (j : ℕ) → j < g.counts.rows → gate_at g.rows j ≡ false → Agrees (get_or (leaf_codes g input state) j 0) (value g.rows leaf j)
-    other-agrees j l f =
-        row_kind g m size w (Agrees (get_or (leaf_codes g input state) j 0) (value g.rows leaf j)) j l (λ (e : j ≡ 0). rw e (inr zero_is)) (leaf-agrees j l) (λ h. absurd (false_true (sym f ∙ h)))
+    other_agrees : (j : ℕ) → j < g.counts.rows → gate_at g.rows j ≡ false → Agrees (get_or (leaf_codes g input state) j 0) (value g.rows leaf j)
+    other_agrees j l f =
+        row_kind g m size w (Agrees (get_or (leaf_codes g input state) j 0) (value g.rows leaf j)) j l (λ (e : j ≡ 0). rw e (inr zero_is)) (leaf_agrees j l) (λ h. absurd (false_true (sym f ∙ h)))
 
     sound : (i : ℕ) → i < g.counts.rows → Agrees (get_or (run g input state) i 0) (value g.rows leaf i)
-    sound i l = row_keeps Agrees and_agrees not_agrees g input state leaf (suc i) i (omega arith) l (λ j _. other-agrees j)
+    sound i l = row_keeps Agrees and_agrees not_agrees g input state leaf (suc i) i (omega arith) l (λ j _. other_agrees j)
 
     module _ (inputs : Known g.counts.inputs input) (states : Known g.counts.latches state) where
       other_is : (j : ℕ) → j < g.counts.rows → gate_at g.rows j ≡ false → (leaf_at g.rows j ≡ true → Listed g j) → Is (get_or (leaf_codes g input state) j 0) (value g.rows leaf j)
       other_is j l f listed =
           row_kind g m size w (Is (get_or (leaf_codes g input state) j 0) (value g.rows leaf j)) j l (λ (e : j ≡ 0). rw e zero_is)
-          (λ h. agrees_is (get_or (leaf_codes g input state) j 0) (value g.rows leaf j) (leaf-agrees j l h)
-          (leaf-listed g m size w input state (λ (c : ℕ). c < 2) j l (listed h) (λ i k _. inputs i k) (λ i k _. states i k))) (λ h. absurd (false_true (sym f ∙ h)))
+          (λ h. agrees_is (get_or (leaf_codes g input state) j 0) (value g.rows leaf j) (leaf_agrees j l h)
+          (leaf_listed g m size w input state (λ (c : ℕ). c < 2) j l (listed h) (λ i k _. inputs i k) (λ i k _. states i k))) (λ h. absurd (false_true (sym f ∙ h)))
 
       exactly : (i : ℕ) → i < g.counts.rows → NoOrphan g i → Is (get_or (run g input state) i 0) (value g.rows leaf i)
       exactly i l whole = row_keeps Is and_is not_is g input state leaf (suc i) i (omega arith) l (λ j c k f. other_is j k f (whole j c))
@@ -205,36 +205,36 @@ module _ (g : Lent) (m : ℕ) (size : Sized g m) (w : WellFormed g) where
     abbrev leaf : ℕ → ℕ → Bool
     leaf = truths g input state
 
-    told-inputs : (k i : ℕ) → i < g.counts.inputs → Agrees (get_or (input k) i 0) (leaf k (input_row g.inputs i))
-    told-inputs k i l = inr (rw ((obeys g m size w (input k) (state_at g input state k)).obeys.inputs i l) (known_is (get_or (input k) i 0) (all.inputs k i l)))
+    told_inputs : (k i : ℕ) → i < g.counts.inputs → Agrees (get_or (input k) i 0) (leaf k (input_row g.inputs i))
+    told_inputs k i l = inr (rw ((obeys g m size w (input k) (state_at g input state k)).obeys.inputs i l) (known_is (get_or (input k) i 0) (all.inputs k i l)))
 
-    told-latches : (k : ℕ) → Known g.counts.latches (state_at g input state k) → (i : ℕ) → i < g.counts.latches → Agrees (get_or (state_at g input state k) i 0) (leaf k (latch_row g.latches i))
-    told-latches k s i l = inr (rw ((obeys g m size w (input k) (state_at g input state k)).obeys.latches i l) (known_is (get_or (state_at g input state k) i 0) (s i l)))
+    told_latches : (k : ℕ) → Known g.counts.latches (state_at g input state k) → (i : ℕ) → i < g.counts.latches → Agrees (get_or (state_at g input state k) i 0) (leaf k (latch_row g.latches i))
+    told_latches k s i l = inr (rw ((obeys g m size w (input k) (state_at g input state k)).obeys.latches i l) (known_is (get_or (state_at g input state k) i 0) (s i l)))
 
     step_is : (k : ℕ) → Known g.counts.latches (state_at g input state k) → (i : ℕ) → i < g.counts.latches
         → get_or (state_at g input state (suc k)) i 0 ≡ code_of (edge_value (value g.rows (leaf k)) (latch_at g.latches i).next)
     unfolding state_at
     step_is k s i l =
-        (means (input k) (state_at g input state k) (leaf k) (record { inputs = told-inputs k; latches = told-latches k s })).exact_next (all.inputs k) s i l (all.nexts i l)
+        (means (input k) (state_at g input state k) (leaf k) (record { inputs = told_inputs k; latches = told_latches k s })).exact_next (all.inputs k) s i l (all.nexts i l)
 
-    states-known : (k : ℕ) → Known g.counts.latches (state_at g input state k)
+    states_known : (k : ℕ) → Known g.counts.latches (state_at g input state k)
     unfolding state_at
-    states-known zero i l = all.start i l
-    states-known (suc k) i l = is_known _ (edge_value (value g.rows (leaf k)) (latch_at g.latches i).next) (step_is k (states-known k) i l)
+    states_known zero i l = all.start i l
+    states_known (suc k) i l = is_known _ (edge_value (value g.rows (leaf k)) (latch_at g.latches i).next) (step_is k (states_known k) i l)
 
-    told-start : (i : ℕ) → i < g.counts.latches → Agrees (get_or state i 0) (leaf 0 (latch_row g.latches i))
+    told_start : (i : ℕ) → i < g.counts.latches → Agrees (get_or state i 0) (leaf 0 (latch_row g.latches i))
     unfolding state_at
-    told-start = told-latches 0 all.start
+    told_start = told_latches 0 all.start
 
-    step-leaf : (k i : ℕ) → i < g.counts.latches → leaf (suc k) (latch_row g.latches i) ≡ edge_value (value g.rows (leaf k)) (latch_at g.latches i).next
-    step-leaf k i l =
-        ap (λ (c : ℕ). eqb c 1) ((obeys g m size w (input (suc k)) (state_at g input state (suc k))).obeys.latches i l ∙ step_is k (states-known k) i l)
+    step_leaf : (k i : ℕ) → i < g.counts.latches → leaf (suc k) (latch_row g.latches i) ≡ edge_value (value g.rows (leaf k)) (latch_at g.latches i).next
+    step_leaf k i l =
+        ap (λ (c : ℕ). eqb c 1) ((obeys g m size w (input (suc k)) (state_at g input state (suc k))).obeys.latches i l ∙ step_is k (states_known k) i l)
         ∙ is_one (edge_value (value g.rows (leaf k)) (latch_at g.latches i).next)
 
   pub traced : (input : ℕ → List ℕ) (state : List ℕ) → Traced g input state
   traced input state =
       record {
-        traces = λ all. record { inputs = told-inputs input state all; start = told-start input state all; steps = step-leaf input state all };
+        traces = λ all. record { inputs = told_inputs input state all; start = told_start input state all; steps = step_leaf input state all };
       }
 
 pub whole : (g : Lent) → Whole g

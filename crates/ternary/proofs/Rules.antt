@@ -23,7 +23,7 @@ use Rattle.ternary_run.specs.Run.{blank, placed, input_row, latch_row, leaves, c
 use Rattle.ternary.specs.Rules.{Listed, Rules, Obeys}
 use Rattle.ternary.specs.Rules.Listed.{as_input, as_latch}
 use Rattle.ternary_run.proofs.Coding.{edge_same, stored}
-use Rattle.ternary_run.proofs.Running.{placed_long, placed-has, placed-there, blank_long, row_gate, row_other, rows_at}
+use Rattle.ternary_run.proofs.Running.{placed_long, placed_has, placed_there, blank_long, row_gate, row_other, rows_at}
 use Rattle.ternary.proofs.Answering.{run_long}
 
 -- ---- the run, row by row
@@ -132,36 +132,36 @@ module _ (g : Lent) (m : ℕ) (size : Sized g m) (w : WellFormed g) where
   once_latch i j l h e = one_place i j (λ k. twice_latch i j k h e) (λ k. twice_latch j i k l (sym e))
 
   module _ (input state : List ℕ) where
-    abbrev inputs-placed : List ℕ
-    inputs-placed = placed (input_row g.inputs) input g.counts.inputs (blank g.counts.rows)
+    abbrev inputs_placed : List ℕ
+    inputs_placed = placed (input_row g.inputs) input g.counts.inputs (blank g.counts.rows)
 
-    inputs_long : length inputs-placed ≡ g.counts.rows
+    inputs_long : length inputs_placed ≡ g.counts.rows
     inputs_long = placed_long (input_row g.inputs) input g.counts.inputs (blank g.counts.rows) ∙ blank_long g.counts.rows
 
     -- what the blank rows have, and each code placed at x, stands there
-    pub leaf-has : (P : ℕ → Type 0) (x : ℕ) → ((i : ℕ) → i < g.counts.inputs → input_row g.inputs i ≡ x → P (get_or input i 0))
+    pub leaf_has : (P : ℕ → Type 0) (x : ℕ) → ((i : ℕ) → i < g.counts.inputs → input_row g.inputs i ≡ x → P (get_or input i 0))
         → ((i : ℕ) → i < g.counts.latches → latch_row g.latches i ≡ x → P (get_or state i 0)) → P (get_or (blank g.counts.rows) x 0) → P (get_or (leaf_codes g input state) x 0)
-    leaf-has P x i s b =
-        placed-has (latch_row g.latches) state P x g.counts.latches inputs-placed s (placed-has (input_row g.inputs) input P x g.counts.inputs (blank g.counts.rows) i b)
+    leaf_has P x i s b =
+        placed_has (latch_row g.latches) state P x g.counts.latches inputs_placed s (placed_has (input_row g.inputs) input P x g.counts.inputs (blank g.counts.rows) i b)
 
     -- and of a listed row, what the codes placed there have
-    pub leaf-listed : (P : ℕ → Type 0) (x : ℕ) → x < g.counts.rows → Listed g x → ((i : ℕ) → i < g.counts.inputs → input_row g.inputs i ≡ x → P (get_or input i 0))
+    pub leaf_listed : (P : ℕ → Type 0) (x : ℕ) → x < g.counts.rows → Listed g x → ((i : ℕ) → i < g.counts.inputs → input_row g.inputs i ≡ x → P (get_or input i 0))
         → ((i : ℕ) → i < g.counts.latches → latch_row g.latches i ≡ x → P (get_or state i 0)) → P (get_or (leaf_codes g input state) x 0)
-    leaf-listed P x l (as_input j h e) i s =
-        placed-has (latch_row g.latches) state P x g.counts.latches inputs-placed s
-        (placed-there (input_row g.inputs) input P x g.counts.inputs (blank g.counts.rows) (rw (blank_long g.counts.rows) l) j h e i)
-    leaf-listed P x l (as_latch j h e) i s = placed-there (latch_row g.latches) state P x g.counts.latches inputs-placed (rw inputs_long l) j h e s
+    leaf_listed P x l (as_input j h e) i s =
+        placed_has (latch_row g.latches) state P x g.counts.latches inputs_placed s
+        (placed_there (input_row g.inputs) input P x g.counts.inputs (blank g.counts.rows) (rw (blank_long g.counts.rows) l) j h e i)
+    leaf_listed P x l (as_latch j h e) i s = placed_there (latch_row g.latches) state P x g.counts.latches inputs_placed (rw inputs_long l) j h e s
 
-    pub blank-later : (x : ℕ) → x < g.counts.rows → 0 < x → get_or (blank g.counts.rows) x 0 ≡ unknown
-    blank-later x l h =
+    pub blank_later : (x : ℕ) → x < g.counts.rows → 0 < x → get_or (blank g.counts.rows) x 0 ≡ unknown
+    blank_later x l h =
         stored (λ (n : ℕ). n ≡ unknown) (replicate g.counts.rows unknown) 0 0 x (λ (e : 0 ≡ x). absurd (omega arith)) (get_or-replicate {A = ℕ} g.counts.rows x unknown 0 l)
 
-    pub blank-zero : get_or (blank g.counts.rows) 0 0 ≡ 0
-    blank-zero = get_or-set_same (replicate g.counts.rows unknown) 0 0 0 (rw (length-replicate {A = ℕ} g.counts.rows unknown) size.rows.some)
+    pub blank_zero : get_or (blank g.counts.rows) 0 0 ≡ 0
+    blank_zero = get_or-set_same (replicate g.counts.rows unknown) 0 0 0 (rw (length-replicate {A = ℕ} g.counts.rows unknown) size.rows.some)
 
-    pub leaf-zero : get_or (leaf_codes g input state) 0 0 ≡ 0
-    leaf-zero =
-        leaf-has (λ (n : ℕ). n ≡ 0) 0 (λ i l e. absurd (never (input_row g.inputs i) (w.inputs i l).1 e)) (λ i l e. absurd (never (latch_row g.latches i) (w.latches i l).1 e)) blank-zero
+    pub leaf_zero : get_or (leaf_codes g input state) 0 0 ≡ 0
+    leaf_zero =
+        leaf_has (λ (n : ℕ). n ≡ 0) 0 (λ i l e. absurd (never (input_row g.inputs i) (w.inputs i l).1 e)) (λ i l e. absurd (never (latch_row g.latches i) (w.latches i l).1 e)) blank_zero
       where
         never : (x : ℕ) → leaf_at g.rows x ≡ true → x ≡ 0 → ⊥
         never x h e = omega (arith, listed_later x h)
@@ -173,41 +173,41 @@ module _ (g : Lent) (m : ℕ) (size : Sized g m) (w : WellFormed g) where
     rules =
         record {
           long = run_long g input state;
-          constant = run_other g input state 0 size.rows.some zero_no_gate ∙ leaf-zero;
-          inputs = input-rule;
-          latches = latch-rule;
-          orphans = orphan-rule;
+          constant = run_other g input state 0 size.rows.some zero_no_gate ∙ leaf_zero;
+          inputs = input_rule;
+          latches = latch_rule;
+          orphans = orphan_rule;
           gates = run_gate g input state;
         }
       where
-        input-rule : (i : ℕ) → i < g.counts.inputs → get_or (run g input state) (input_row g.inputs i) 0 ≡ get_or input i 0
-        input-rule i l =
+        input_rule : (i : ℕ) → i < g.counts.inputs → get_or (run g input state) (input_row g.inputs i) 0 ≡ get_or input i 0
+        input_rule i l =
             let u = w.inputs i l in
-            at_leaf (input_row g.inputs i) u.0 u.1 ∙ leaf-listed (λ (n : ℕ). n ≡ get_or input i 0) (input_row g.inputs i) u.0 (as_input i l refl)
+            at_leaf (input_row g.inputs i) u.0 u.1 ∙ leaf_listed (λ (n : ℕ). n ≡ get_or input i 0) (input_row g.inputs i) u.0 (as_input i l refl)
             (λ j h e. let q = once_input j i h l e in rw q) (λ j h e. absurd (twice_both i j l h (sym e)))
 
-        latch-rule : (i : ℕ) → i < g.counts.latches → get_or (run g input state) (latch_row g.latches i) 0 ≡ get_or state i 0
-        latch-rule i l =
+        latch_rule : (i : ℕ) → i < g.counts.latches → get_or (run g input state) (latch_row g.latches i) 0 ≡ get_or state i 0
+        latch_rule i l =
             let u = w.latches i l in
             at_leaf (latch_row g.latches i) u.0 u.1
-            ∙ leaf-listed (λ (n : ℕ). n ≡ get_or state i 0) (latch_row g.latches i) u.0 (as_latch i l refl) (λ j h e. absurd (twice_both j i h l e)) (λ j h e. let q = once_latch j i h l e in rw q)
+            ∙ leaf_listed (λ (n : ℕ). n ≡ get_or state i 0) (latch_row g.latches i) u.0 (as_latch i l refl) (λ j h e. absurd (twice_both j i h l e)) (λ j h e. let q = once_latch j i h l e in rw q)
 
-        orphan-rule : (x : ℕ) → x < g.counts.rows → leaf_at g.rows x ≡ true → (Listed g x → ⊥) → get_or (run g input state) x 0 ≡ unknown
-        orphan-rule x l h none =
+        orphan_rule : (x : ℕ) → x < g.counts.rows → leaf_at g.rows x ≡ true → (Listed g x → ⊥) → get_or (run g input state) x 0 ≡ unknown
+        orphan_rule x l h none =
             at_leaf x l h
-            ∙ leaf-has (λ (n : ℕ). n ≡ unknown) x (λ j k e. absurd (none (as_input j k e))) (λ j k e. absurd (none (as_latch j k e))) (blank-later x l (listed_later x h))
+            ∙ leaf_has (λ (n : ℕ). n ≡ unknown) x (λ j k e. absurd (none (as_input j k e))) (λ j k e. absurd (none (as_latch j k e))) (blank_later x l (listed_later x h))
 
     module _ (codes : List ℕ) (r : Rules g input state codes) where
       -- a leaf
-      only-leaf : (x : ℕ) → x < g.counts.rows → leaf_at g.rows x ≡ true → Listed g x ⊎ (Listed g x → ⊥) → get_or codes x 0 ≡ get_or (run g input state) x 0
-      only-leaf x l h (inl (as_input i k e)) = rw (← e) (r.inputs i k ∙ sym (rules.inputs i k))
-      only-leaf x l h (inl (as_latch i k e)) = rw (← e) (r.latches i k ∙ sym (rules.latches i k))
-      only-leaf x l h (inr none) = r.orphans x l h none ∙ sym (rules.orphans x l h none)
+      only_leaf : (x : ℕ) → x < g.counts.rows → leaf_at g.rows x ≡ true → Listed g x ⊎ (Listed g x → ⊥) → get_or codes x 0 ≡ get_or (run g input state) x 0
+      only_leaf x l h (inl (as_input i k e)) = rw (← e) (r.inputs i k ∙ sym (rules.inputs i k))
+      only_leaf x l h (inl (as_latch i k e)) = rw (← e) (r.latches i k ∙ sym (rules.latches i k))
+      only_leaf x l h (inr none) = r.orphans x l h none ∙ sym (rules.orphans x l h none)
 
       only_below : (n i : ℕ) → i < n → i < g.counts.rows → get_or codes i 0 ≡ get_or (run g input state) i 0
       only_below zero i k l = absurd (omega arith)
       only_below (suc n) i k l =
-          row_kind (get_or codes i 0 ≡ get_or (run g input state) i 0) i l (λ (e : i ≡ 0). rw e (r.constant ∙ sym rules.constant)) (λ h. only-leaf i l h (is_listed g i)) (λ h. gate h (only_below n))
+          row_kind (get_or codes i 0 ≡ get_or (run g input state) i 0) i l (λ (e : i ≡ 0). rw e (r.constant ∙ sym rules.constant)) (λ h. only_leaf i l h (is_listed g i)) (λ h. gate h (only_below n))
         where
           gate : gate_at g.rows i ≡ true → ((j : ℕ) → j < n → j < g.counts.rows → get_or codes j 0 ≡ get_or (run g input state) j 0) → get_or codes i 0 ≡ get_or (run g input state) i 0
           gate h below =

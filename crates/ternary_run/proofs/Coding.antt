@@ -75,13 +75,13 @@ module _ (l : List ℕ) (i : ℕ) where
   codes_end h = rw (drop_of_length-le l h)
 
   module _ (h : i < length l) where
-    pub codes-stop : 2 < get_or l i 0 → all_codes (drop i l) ≡ false
+    pub codes_stop : 2 < get_or l i 0 → all_codes (drop i l) ≡ false
     unfolding all_codes
-    codes-stop k = let m : 3 ≤ get_or l i 0 = omega arith in rw (drop-cons l i 0 h, le-ltb (get_or l i 0) 3 m)
+    codes_stop k = let m : 3 ≤ get_or l i 0 = omega arith in rw (drop-cons l i 0 h, le-ltb (get_or l i 0) 3 m)
 
-    pub codes-go : get_or l i 0 ≤ 2 → all_codes (drop i l) ≡ all_codes (drop (i + 1) l)
+    pub codes_go : get_or l i 0 ≤ 2 → all_codes (drop i l) ≡ all_codes (drop (i + 1) l)
     unfolding all_codes
-    codes-go k = let m : get_or l i 0 < 3 = omega arith in rw (add-one, drop-cons l i 0 h, lt-ltb (get_or l i 0) 3 m)
+    codes_go k = let m : get_or l i 0 < 3 = omega arith in rw (add-one, drop-cons l i 0 h, lt-ltb (get_or l i 0) 3 m)
 
 -- ---- after a store
 -- what stood at j has P, and where j is stored to, what is stored has it too

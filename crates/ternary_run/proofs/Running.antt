@@ -43,16 +43,16 @@ module _ (row : ℕ → ℕ) (codes : List ℕ) where
 
   module _ (P : ℕ → Type 0) (j : ℕ) where
     -- what stood at j has P, and so has each code that is placed there
-    pub placed-has : (n : ℕ) (into : List ℕ) → ((i : ℕ) → i < n → row i ≡ j → P (get_or codes i 0)) → P (get_or into j 0) → P (get_or (placed row codes n into) j 0)
+    pub placed_has : (n : ℕ) (into : List ℕ) → ((i : ℕ) → i < n → row i ≡ j → P (get_or codes i 0)) → P (get_or into j 0) → P (get_or (placed row codes n into) j 0)
     unfolding placed
-    placed-has zero into h k = k
-    placed-has (suc n) into h k = stored P (placed row codes n into) (row n) (get_or codes n 0) j (h n (omega arith)) (placed-has n into (λ i l. h i (omega arith)) k)
+    placed_has zero into h k = k
+    placed_has (suc n) into h k = stored P (placed row codes n into) (row n) (get_or codes n 0) j (h n (omega arith)) (placed_has n into (λ i l. h i (omega arith)) k)
 
     -- a code is placed at j, and each that is has P
-    pub placed-there : (n : ℕ) (into : List ℕ) → j < length into → (i : ℕ) → i < n → row i ≡ j → ((i : ℕ) → i < n → row i ≡ j → P (get_or codes i 0)) → P (get_or (placed row codes n into) j 0)
+    pub placed_there : (n : ℕ) (into : List ℕ) → j < length into → (i : ℕ) → i < n → row i ≡ j → ((i : ℕ) → i < n → row i ≡ j → P (get_or codes i 0)) → P (get_or (placed row codes n into) j 0)
     unfolding placed
-    placed-there zero into h i l e all = absurd (omega arith)
-    placed-there (suc n) into h i l e all = go (eqb j (row n)) refl (λ (m : i < n). placed-there n into h i m e (λ k o. all k (omega arith)))
+    placed_there zero into h i l e all = absurd (omega arith)
+    placed_there (suc n) into h i l e all = go (eqb j (row n)) refl (λ (m : i < n). placed_there n into h i m e (λ k o. all k (omega arith)))
       where
         go : (t : Bool) → eqb j (row n) ≡ t → (i < n → P (get_or (placed row codes n into) j 0)) → P (get_or (set (placed row codes n into) (row n) (get_or codes n 0)) j 0)
         go true q earlier =
@@ -78,8 +78,8 @@ module _ (inputs latches : List ℕ) (counts : Counts) (input state : List ℕ) 
 
   pub leaves_codes : Codes counts.inputs input → Codes counts.latches state → Codes counts.rows (leaves inputs latches counts input state)
   leaves_codes h k i l =
-      placed-has (latch_row latches) state (λ (n : ℕ). n < 3) i counts.latches (placed (input_row inputs) input counts.inputs (blank counts.rows)) (λ j m _. k j m)
-      (placed-has (input_row inputs) input (λ (n : ℕ). n < 3) i counts.inputs (blank counts.rows) (λ j m _. h j m) (blank_codes counts.rows i l))
+      placed_has (latch_row latches) state (λ (n : ℕ). n < 3) i counts.latches (placed (input_row inputs) input counts.inputs (blank counts.rows)) (λ j m _. k j m)
+      (placed_has (input_row inputs) input (λ (n : ℕ). n < 3) i counts.inputs (blank counts.rows) (λ j m _. h j m) (blank_codes counts.rows i l))
 
 -- ---- a row
 -- it hangs on the rows below it, and on its leaf
@@ -150,11 +150,11 @@ module _ (rows leaf : List ℕ) where
     front j h = get_or-append (rows3 rows leaf n) _ 0 j (rw (rows_long n) h)
 
     module _ (values : List ℕ) (p : values ≡ rows3 rows leaf n ++ drop n d) where
-      pub turn-codes : Codes n leaf → Codes n values
-      turn-codes k j h = rw (p, front j h) (rows_codes n k j h)
+      pub turn_codes : Codes n leaf → Codes n values
+      turn_codes k j h = rw (p, front j h) (rows_codes n k j h)
 
-      turn-leaf : get_or values n 0 ≡ get_or d n 0
-      turn-leaf = rw (p, drop-cons d n 0 l) (get_or_at (rows3 rows leaf n) (get_or d n 0) (drop (suc n) d) 0 n (rows_long n))
+      turn_leaf : get_or values n 0 ≡ get_or d n 0
+      turn_leaf = rw (p, drop-cons d n 0 l) (get_or_at (rows3 rows leaf n) (get_or d n 0) (drop (suc n) d) 0 n (rows_long n))
 
       put : (v : ℕ) → v ≡ row3 rows leaf n (rows3 rows leaf n) → set (rows3 rows leaf n ++ drop n d) n v ≡ rows3 rows leaf (n + 1) ++ drop (n + 1) d
       unfolding rows3
@@ -162,7 +162,7 @@ module _ (rows leaf : List ℕ) where
 
       pub turn : get_or d n 0 ≡ get_or leaf n 0 → (v : ℕ) → v ≡ row3 rows values n values → set values n v ≡ rows3 rows leaf (n + 1) ++ drop (n + 1) d
       turn q v r =
-          rw p (put v (r ∙ row_same rows values leaf n values (rows3 rows leaf n) (turn-leaf ∙ q) (λ j h. ap (λ (t : List ℕ). get_or t j 0) p ∙ front j h)))
+          rw p (put v (r ∙ row_same rows values leaf n values (rows3 rows leaf n) (turn_leaf ∙ q) (λ j h. ap (λ (t : List ℕ). get_or t j 0) p ∙ front j h)))
 
 -- the first n rows hang on the first n leaves
 rows_same : (rows leaf leaf' : List ℕ) (n : ℕ) → ((i : ℕ) → i < n → get_or leaf i 0 ≡ get_or leaf' i 0) → rows3 rows leaf n ≡ rows3 rows leaf' n
@@ -202,12 +202,12 @@ module _ (rows inputs latches : List ℕ) (counts : Counts) (input state values 
     all_placed : v₃ ≡ third
     all_placed = p₃ ∙ ap (placed (latch_row latches) state counts.latches) (p₂ ∙ ap (placed (input_row inputs) input counts.inputs) p₁)
 
-    pub placed-codes : Codes counts.rows v₃
-    placed-codes i l = rw (all_placed, front_leaf i l) (leaves_codes inputs latches counts input state ready.input_codes ready.state_codes i l)
+    pub placed_codes : Codes counts.rows v₃
+    placed_codes i l = rw (all_placed, front_leaf i l) (leaves_codes inputs latches counts input state ready.input_codes ready.state_codes i l)
 
-    pub run-whole : rows3 rows v₃ counts.rows ++ drop counts.rows v₃ ≡ codes_of rows inputs latches counts input state ++ drop counts.rows values
+    pub run_whole : rows3 rows v₃ counts.rows ++ drop counts.rows v₃ ≡ codes_of rows inputs latches counts input state ++ drop counts.rows values
     unfolding codes_of
-    run-whole =
+    run_whole =
         rw all_placed
         (ap₂ ◌++◌ (rows_same rows third (leaves inputs latches counts input state) counts.rows front_leaf)
         (ap (drop counts.rows) placed_all ∙ drop_at (leaves inputs latches counts input state) (drop counts.rows values) counts.rows (leaves_long inputs latches counts input state)))

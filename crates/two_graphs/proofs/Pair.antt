@@ -96,12 +96,12 @@ module _ (a b : Lent) (marks : List ℕ) where
       emptied : {now : List ℕ} → now ≡ cleared a.counts.rows old → now ≡ cleared_two
       emptied w = w ∙ (ap (cleared a.counts.rows) o ∙ cleared_both a.counts.rows b.counts.rows marks)
 
-      pub two-first : told r ≡ contents a → ((contents a).number ≡ 0 → ⊥) → after ≡ cleared a.counts.rows old → check_seen r after ≡ check_two_call a b marks
-      two-first t n w = seen (t ∙ sym (stops_here (contents a) (contents b) n)) (emptied w)
+      pub two_first : told r ≡ contents a → ((contents a).number ≡ 0 → ⊥) → after ≡ cleared a.counts.rows old → check_seen r after ≡ check_two_call a b marks
+      two_first t n w = seen (t ∙ sym (stops_here (contents a) (contents b) n)) (emptied w)
 
-      pub two-second : {between : List ℕ} → told r ≡ contents b → (contents a).number ≡ 0 → between ≡ cleared a.counts.rows old → after ≡ cleared b.counts.rows between
+      pub two_second : {between : List ℕ} → told r ≡ contents b → (contents a).number ≡ 0 → between ≡ cleared a.counts.rows old → after ≡ cleared b.counts.rows between
           → check_seen r after ≡ check_two_call a b marks
-      two-second t n u w =
+      two_second t n u w =
           seen (t ∙ sym (goes_past (contents a) (contents b) n))
           (w ∙ (ap (cleared b.counts.rows) (emptied u) ∙ cleared_fewer b.counts.rows (larger a.counts.rows b.counts.rows) marks (larger_second a.counts.rows b.counts.rows)))
 

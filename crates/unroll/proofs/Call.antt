@@ -98,9 +98,9 @@ module _ (a b : Lent) (marks : List ℕ) where
     kept : after ≡ (check_two_call a b marks).marks
     kept = ap (λ (s : CheckSeen). s.marks) seen
 
-    pub check-stops : not d ≡ true → check_seen r after ≡ unroll_checked a b marks
+    pub check_stops : not d ≡ true → check_seen r after ≡ unroll_checked a b marks
     unfolding unroll_checked
-    check-stops h = rw (stops_here (check_two_call a b marks).given same (eqb-false (check_two_call a b marks).given.number 0 (test_refused given test h)), given, kept)
+    check_stops h = rw (stops_here (check_two_call a b marks).given same (eqb-false (check_two_call a b marks).given.number 0 (test_refused given test h)), given, kept)
 
     module _ (h : not d ≡ false) where
       passed : (check_two_call a b marks).given.number ≡ 0
@@ -109,18 +109,18 @@ module _ (a b : Lent) (marks : List ℕ) where
       right : SizedTwo a b (length marks) × WellFormed a × WellFormed b
       right = (exact_two a b marks).accepted passed
 
-      pub both-sized : SizedTwo a b (length marks)
-      both-sized = right.0
+      pub both_sized : SizedTwo a b (length marks)
+      both_sized = right.0
 
-      pub check-same : {s : Bool} → s ≡ same_start a b → s ≡ true → check_seen r after ≡ unroll_checked a b marks
+      pub check_same : {s : Bool} → s ≡ same_start a b → s ≡ true → check_seen r after ≡ unroll_checked a b marks
       unfolding unroll_checked
-      check-same e q =
+      check_same e q =
           let t = given ∙ (exact_two a b marks).accepts right.0 right.1 right.2 in
           rw (goes_past (check_two_call a b marks).given same passed, sym e ∙ q, t, kept)
 
-      pub check-differs : {s : Bool} → s ≡ same_start a b → s ≡ false → check_seen BadArgument after ≡ unroll_checked a b marks
+      pub check_differs : {s : Bool} → s ≡ same_start a b → s ≡ false → check_seen BadArgument after ≡ unroll_checked a b marks
       unfolding unroll_checked
-      check-differs e q = rw (goes_past (check_two_call a b marks).given same passed, sym e ∙ q, kept)
+      check_differs e q = rw (goes_past (check_two_call a b marks).given same passed, sym e ∙ q, kept)
 
   -- ---- the call: r is what the check answers
   module _ (r : Answer) {after : List ℕ} (seen : check_seen r after ≡ unroll_checked a b marks) {d : Bool} (test : d ≡ eqb (told r).number 0) where
@@ -146,17 +146,17 @@ module _ (a b : Lent) (marks : List ℕ) where
       pub ready : {n : ℕ} → length marks ≡ n → FrameReady a b n
       ready e = rw e at (checked_ready free)
 
-      pub unroll-done : (answer : Answer) (n : Counts) {fits : Bool} {g : Lent} {last : List ℕ} → frame_seen fits g last ≡ frame_call a b after → told answer ≡ cond fits done no_room
+      pub unroll_done : (answer : Answer) (n : Counts) {fits : Bool} {g : Lent} {last : List ℕ} → frame_seen fits g last ≡ frame_call a b after → told answer ≡ cond fits done no_room
           → rebuilt_seen (rebuilt answer n) g last ≡ unroll_call a b marks
       unfolding unroll_call unroll_answer frame_call
-      unroll-done answer n {fits} {g} {last} e w =
+      unroll_done answer n {fits} {g} {last} e w =
           let f : fits ≡ frame_fits a b = ap (λ (s : FrameSeen). s.fits) e in
           let q : g ≡ cond (frame_fits a b) (framed a b) a = ap (λ (s : FrameSeen). s.graph) e in
           let m : last ≡ cleared b.counts.rows after = ap (λ (s : FrameSeen). s.marks) e in
-          rw (goes_past (unroll_checked a b marks).given (cond (frame_fits a b) done no_room) free, w, f, q, m ∙ (ap (cleared b.counts.rows) left ∙ still_clear free)) (by-room (frame_fits a b))
+          rw (goes_past (unroll_checked a b marks).given (cond (frame_fits a b) done no_room) free, w, f, q, m ∙ (ap (cleared b.counts.rows) left ∙ still_clear free)) (by_room (frame_fits a b))
         where
-          by-room : (t : Bool)
+          by_room : (t : Bool)
               → record { given = cond t done no_room; graph = cond t (framed a b) a; marks = (unroll_checked a b marks).marks }
               ≡ rebuilt_seen_of_lem (cond t done no_room) (cond (eqb (cond t done no_room).number 0) (framed a b) a) (unroll_checked a b marks).marks
-          by-room true = refl
-          by-room false = refl
+          by_room true = refl
+          by_room false = refl

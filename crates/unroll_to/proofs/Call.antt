@@ -52,11 +52,11 @@ module _ (g : Lent) (room : Counts) (n : ℕ) (marks : List ℕ) (a : Answer) {a
       rw (stops_here (unroll_asked g room n marks).given (cond (fits_in room g.counts) done no_room) (eqb-false _ _ f), f, given, kept)
 
   module _ (h : not d ≡ false) where
-    test-is : eqb (unroll_asked g room n marks).given.number 0 ≡ true
-    test-is = test_done given test h
+    test_is : eqb (unroll_asked g room n marks).given.number 0 ≡ true
+    test_is = test_done given test h
 
     number : (unroll_asked g room n marks).given.number ≡ 0
-    number = eqb-true _ _ test-is
+    number = eqb-true _ _ test_is
 
     past : or_else (unroll_asked g room n marks).given (cond (fits_in room g.counts) done no_room) ≡ cond (fits_in room g.counts) done no_room
     past = goes_past (unroll_asked g room n marks).given (cond (fits_in room g.counts) done no_room) number
@@ -65,11 +65,11 @@ module _ (g : Lent) (room : Counts) (n : ℕ) (marks : List ℕ) (a : Answer) {a
     module _ {fits : Bool} (e : fits ≡ fits_in room g.counts) where
       pub no_room_lem : not fits ≡ true → {none : Counts} → none ≡ no_counts → record { given = told NoRoom; counts = none; marks = after } ≡ unroll_checked g room n marks
       unfolding unroll_checked
-      no_room_lem f z = rw (past, test-is, sym e ∙ not-true fits f, kept, z)
+      no_room_lem f z = rw (past, test_is, sym e ∙ not-true fits f, kept, z)
 
       pub all_found : not fits ≡ false → record { given = told a; counts = g.counts; marks = after } ≡ unroll_checked g room n marks
       unfolding unroll_checked
-      all_found f = rw (past, test-is, sym e ∙ not-false fits f, given, asked_done (leb n max_frames) g room marks number, kept)
+      all_found f = rw (past, test_is, sym e ∙ not-false fits f, given, asked_done (leb n max_frames) g room marks number, kept)
 
 -- the words of a, with other counts
 abbrev with : Lent → Counts → Lent
@@ -132,8 +132,8 @@ module _ (g out : Lent) (same : out.counts ≡ g.counts) (n : ℕ) (marks : List
     marks_cleared : after ≡ cleared g.counts.rows marks
     marks_cleared = marks_are ∙ asked_cleared (leb n max_frames) g (room_in out) marks (λ (o : asked.number ≡ 1). absurd (omega (arith, two.0)))
 
-    pub ready-to-write : UnrollReady g out after
-    ready-to-write =
+    pub ready_to_write : UnrollReady g out after
+    ready_to_write =
         let a = asked_accepted (leb n max_frames) g (room_in out) marks two.0 in
         let l : length (cleared g.counts.rows marks) ≡ length marks = simp (length-append, length-replicate {A = ℕ} g.counts.rows 0, length-drop) (omega (arith, a.sized.marked)) in
         let s = a.sized in
@@ -156,10 +156,10 @@ module _ (g out : Lent) (same : out.counts ≡ g.counts) (n : ℕ) (marks : List
           zeros = rw marks_cleared (cleared_again g.counts.rows marks (cleared g.counts.rows marks) refl);
         }
 
-    pub unroll-done : {t : Given} {finished : ℕ} {new : Lent} {last : List ℕ} → frames finished new ≡ unrolled g out n → last ≡ after → t ≡ frames_answer finished n
+    pub unroll_done : {t : Given} {finished : ℕ} {new : Lent} {last : List ℕ} → frames finished new ≡ unrolled g out n → last ≡ after → t ≡ frames_answer finished n
         → record { ran = ran t finished new; marks = last } ≡ unroll_to_call g out n marks
     unfolding unroll_to_call unroll_ran
-    unroll-done {t} {finished} {new} {last} p m q =
+    unroll_done {t} {finished} {new} {last} p m q =
         let f : finished ≡ (unrolled g out n).finished = ap (λ (s : Frames). s.finished) p in
         let e : new ≡ (unrolled g out n).graph = ap (λ (s : Frames). s.graph) p in
         rw (eq-eqb asked.number 0 two.0, fits, q, f, e, m, marks_are)

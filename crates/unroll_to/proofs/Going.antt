@@ -82,17 +82,17 @@ module _ (start b : Lent) (n : ℕ) (marks : List ℕ) (pre : FramesReady start 
 
     -- `add_frame` was called
     module _ (l : j < n) {fits : Bool} {after : Lent} {last : List ℕ} (seen : frame_seen fits after last ≡ frame_call a b now) where
-      fits-is : fits ≡ frame_fits a b
+      fits_is : fits ≡ frame_fits a b
       unfolding frame_call
-      fits-is = ap (λ (s : FrameSeen). s.fits) seen
+      fits_is = ap (λ (s : FrameSeen). s.fits) seen
 
       graph_is : after ≡ cond fits (framed a b) a
       unfolding frame_call
-      graph_is = ap (λ (s : FrameSeen). s.graph) seen ∙ rw fits-is
+      graph_is = ap (λ (s : FrameSeen). s.graph) seen ∙ rw fits_is
 
-      pub marks-same : last ≡ marks
+      pub marks_same : last ≡ marks
       unfolding frame_call
-      marks-same = ap (λ (s : FrameSeen). s.marks) seen ∙ (ap (cleared b.counts.rows) k.same ∙ pre.zeros)
+      marks_same = ap (λ (s : FrameSeen). s.marks) seen ∙ (ap (cleared b.counts.rows) k.same ∙ pre.zeros)
 
       one_left : n - j ≡ suc (n - (j + 1))
       one_left = omega arith
@@ -105,7 +105,7 @@ module _ (start b : Lent) (n : ℕ) (marks : List ℕ) (pre : FramesReady start 
       stops h =
           let f = not-true fits h in
           let g : after ≡ a = graph_is ∙ rw f in
-          let e : frame_fits a b ≡ false = sym fits-is ∙ f in
+          let e : frame_fits a b ≡ false = sym fits_is ∙ f in
           ap (λ (x : Lent). frames j (with x a.counts)) g ∙ (rw e at left_is)
 
       pub goes : not fits ≡ false → Lengths a after → Going start b n marks after (j + 1) last
@@ -113,11 +113,11 @@ module _ (start b : Lent) (n : ℕ) (marks : List ℕ) (pre : FramesReady start 
       goes h ls =
           let f = not-false fits h in
           let g : after ≡ framed a b = graph_is ∙ rw f in
-          let e : frame_fits a b ≡ true = sym fits-is ∙ f in
+          let e : frame_fits a b ≡ true = sym fits_is ∙ f in
           record {
             within = omega arith;
             long = lengths_on start a after k.long ls;
             ready = rw g (ready_again a b (length marks) k.ready e);
             left = rw g (rw e at left_is);
-            same = marks-same;
+            same = marks_same;
           }

@@ -62,8 +62,8 @@ module _ (g out : Lent) (marks : List ℕ) (r : UnrollReady g out marks) where
 
   -- c is the copy
   module _ {c : Lent} (e : c ≡ copy_of g.counts g out) where
-    pub frames-ready : FramesReady c g marks
-    frames-ready = record { ready = rw e (frame_ready g out (length marks) r.sized r.well_formed r.room r.limited); zeros = r.zeros }
+    pub frames_ready : FramesReady c g marks
+    frames_ready = record { ready = rw e (frame_ready g out (length marks) r.sized r.well_formed r.room r.limited); zeros = r.zeros }
 
-    pub all-unrolled : (n : ℕ) {s : Frames} → s ≡ frames_on g n (frames 0 c) → s ≡ unrolled g out n
-    all-unrolled n p = p ∙ ap (λ (x : Lent). frames_on g n (frames 0 x)) e
+    pub all_unrolled : (n : ℕ) {s : Frames} → s ≡ frames_on g n (frames 0 c) → s ≡ unrolled g out n
+    all_unrolled n p = p ∙ ap (λ (x : Lent). frames_on g n (frames 0 x)) e

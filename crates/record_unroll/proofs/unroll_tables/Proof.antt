@@ -73,7 +73,7 @@ use Rattle.record_unroll.proofs.unroll.Symbol as unrolls-def
 use Rattle.record_unroll.proofs.unroll.Symbol.{name as #unroll}
 use Rattle.record_unroll.proofs.unroll.Met as unrolls-thm
 use Rattle.records.specs.Local.{table_size, empty, held}
-use Rattle.records.proofs.Arrays.{Lying, Shared, filled, filled-typed, array-room, lends-array, shares_array, shared-array}
+use Rattle.records.proofs.Arrays.{Lying, Shared, filled, filled_typed, array_room, lends_array, shares_array, shared_array}
 use Rattle.records.proofs.Local.{at_table, table_room, Fills}
 use Rattle.records.proofs.Locals.{local_type, env_of, freed, freed_all, slice_at}
 use Rattle.record_unroll.proofs.Bridging.{through}
@@ -733,14 +733,14 @@ module _ {M : Type 1} {𝓤 : Ura M} (𝓛 : Logic 𝓤) (at_mem : Memory → SP
           move ! (1 ∷ []) $ split ! $ split ! $ move ! (1 ∷ []) $ split ! $ move ! (1 ∷ []) $ drop ! $ move ! (2 ∷ []) $
           peeks ! unit (Is unit) (shows 𝓛 unit) r₄ (u₄ ∷ []) (λ is₄. land ! (from ! (stop !)) (init ! 77 refl ((Nothing-Lawful 𝓛).typed r₄ (u₄ ∷ []) is₄).0) $ drop ! $
           move ! (1 ∷ []) $ lft_end ! tt $ move ! (0 ∷ 3 ∷ []) $
-          use2 𝓛 (later (‵ (Lying L.the_row table_size zs₃.1.1.0 l₂₅))) (shared-array L.the_row table_size 𝓛 (ν₆ ∷ []) l₂₅ zs₃.1.1.0) $ await ! tt $
+          use2 𝓛 (later (‵ (Lying L.the_row table_size zs₃.1.1.0 l₂₅))) (shared_array L.the_row table_size 𝓛 (ν₆ ∷ []) l₂₅ zs₃.1.1.0) $ await ! tt $
           assigns ! (of_opd ! (load ! (from ! (stop !)) (look ! 77 refl))) (from ! (stop !)) (init ! 130 refl ((LL.lawful B.the_type B'.the_laws 𝓛).typed r₃ _ is₃).0) $
           returns ! (look ! 130 refl) $ forget ! 130 refl $ forget ! 128 refl $ forget ! 126 refl $ forget ! 124 refl $ forget ! 122 refl $ forget ! 120 refl $ forget ! 118 refl $
           forget ! 116 refl $ forget ! 114 refl $ forget ! 112 refl $ forget ! 110 refl $ forget ! 108 refl $ forget ! 106 refl $ forget ! 104 refl $ forget ! 102 refl $ forget ! 100 refl $
           forget ! 98 refl $ forget ! 96 refl $ forget ! 94 refl $ forget ! 92 refl $ forget ! 90 refl $ forget ! 88 refl $ forget ! 86 refl $ forget ! 84 refl $ forget ! 77 refl $
           forget ! 75 refl $ forget ! 9 refl $ forget ! 7 refl $ forget ! 5 refl $ forget ! 3 refl $
-          use1 𝓛 (‵ (froom (ty 25) l₂₅ 0)) (array-room L.the_row table_size 𝓛 zs₃.1.1.0 l₂₅) $
-          move ! (79 ∷ []) $ use1 𝓛 (‵ (froom (ty 26) l₂₆ 0)) (array-room L.the_row table_size 𝓛 zs₂.0 l₂₆) $
+          use1 𝓛 (‵ (froom (ty 25) l₂₅ 0)) (array_room L.the_row table_size 𝓛 zs₃.1.1.0 l₂₅) $
+          move ! (79 ∷ []) $ use1 𝓛 (‵ (froom (ty 26) l₂₆ 0)) (array_room L.the_row table_size 𝓛 zs₂.0 l₂₆) $
           keep ! (130 ∷ 131 ∷ 128 ∷ 129 ∷ 126 ∷ 127 ∷ 124 ∷ 125 ∷ 122 ∷ 123 ∷ 120 ∷ 121 ∷ 118 ∷ 119 ∷ 116 ∷ 117 ∷ 114 ∷ 115 ∷ 112 ∷ 113 ∷ 110 ∷ 111 ∷ 108 ∷ 109 ∷ 106 ∷ 107 ∷ 104 ∷ 105 ∷ 102
           ∷ 103 ∷ 100 ∷ 101 ∷ 98 ∷ 99 ∷ 96 ∷ 97 ∷ 94 ∷ 95 ∷ 92 ∷ 93 ∷ 90 ∷ 91 ∷ 88 ∷ 89 ∷ 86 ∷ 87 ∷ 84 ∷ 85 ∷ 82 ∷ 83 ∷ 1 ∷ 81 ∷ 0 ∷ 80 ∷ 78 ∷ 79 ∷ 76 ∷ 77 ∷ 74 ∷ 75 ∷ 72 ∷ 73 ∷ 70 ∷ 71
           ∷ 68 ∷ 69 ∷ 66 ∷ 67 ∷ 64 ∷ 65 ∷ 62 ∷ 63 ∷ 60 ∷ 61 ∷ 58 ∷ 59 ∷ 56 ∷ 57 ∷ 54 ∷ 55 ∷ 52 ∷ 53 ∷ 50 ∷ 51 ∷ 48 ∷ 49 ∷ 46 ∷ 47 ∷ 44 ∷ 45 ∷ 42 ∷ 43 ∷ 40 ∷ 41 ∷ 38 ∷ 39 ∷ 36 ∷ 37 ∷ 34 ∷ 35
@@ -847,9 +847,9 @@ module _ {M : Type 1} {𝓤 : Ura M} (𝓛 : Logic 𝓤) (at_mem : Memory → SP
         assigns ! (agg ! (and_then ! (lit ! tt) (and_then ! (lit ! tt) (and_then ! (lit ! tt) (no_more !))))) (from ! (stop !))
         (init ! 122 refl ((LL.lawful L.the_type L'.the_laws 𝓛).typed no_latch (l_vals no_latch) is_none).0) $
         assigns ! (rep ! table_size (load ! (from ! (stop !)) (look ! 122 refl))) (from ! (stop !))
-        (init ! 120 refl (filled-typed L.the_row table_size 𝓛 (LL.lawful L.the_type L'.the_laws 𝓛) no_latch (only (l_vals no_latch)) is_none)) $
+        (init ! 120 refl (filled_typed L.the_row table_size 𝓛 (LL.lawful L.the_type L'.the_laws 𝓛) no_latch (only (l_vals no_latch)) is_none)) $
         assigns ! (rep ! table_size (load ! (from ! (stop !)) (look ! 122 refl))) (from ! (stop !))
-        (init ! 118 refl (filled-typed L.the_row table_size 𝓛 (LL.lawful L.the_type L'.the_laws 𝓛) no_latch (only (l_vals no_latch)) is_none)) $
+        (init ! 118 refl (filled_typed L.the_row table_size 𝓛 (LL.lawful L.the_type L'.the_laws 𝓛) no_latch (only (l_vals no_latch)) is_none)) $
         move ! (120 ∷ []) $ use1 𝓛 (‵ (Lying L.the_row table_size empty l₂₅))
         (filled L.the_row table_size 𝓛 tt (LL.makes L.the_type L'.the_plain 𝓛) no_latch (only (l_vals no_latch)) is_none l₂₅) $
         move ! (119 ∷ []) $ use1 𝓛 (‵ (Lying L.the_row table_size empty l₂₆))
@@ -862,7 +862,7 @@ module _ {M : Type 1} {𝓤 : Ura M} (𝓛 : Logic 𝓤) (at_mem : Memory → SP
         (no_more !)))) (from ! (stop !)) (init ! 108 refl (tt, (tt, (record { fits = latches-fits.0 }, tt)))) $
         lft_new ! tt (λ ν₁. move ! (2 ∷ []) $
         use1 𝓛 (later (some (λ (δ : GName). ‵ ((MutSlice (named 0) (ν₁ ∷ []) L.the_row).own_val (at_table l₂₅ δ empty) (slice_val (l₂₅, 0) table_size ∷ [])) ⊛ ‵ (flent (ν₁
-        ∷ []) (Held L.the_row table_size l₂₅ 0 δ))))) (lends-array L.the_row table_size 𝓛 (named 0) (ν₁ ∷ []) l₂₅ empty table_room) $ await ! tt $ pick ! (λ δ₁. split ! $
+        ∷ []) (Held L.the_row table_size l₂₅ 0 δ))))) (lends_array L.the_row table_size 𝓛 (named 0) (ν₁ ∷ []) l₂₅ empty table_room) $ await ! tt $ pick ! (λ δ₁. split ! $
         lft_new ! tt (λ ν₂. move ! (44 ∷ 23 ∷ []) $
         use2 𝓛 (later (some (λ (δ : GName). ‵ ((ShrSlice (named 0) (ν₂ ∷ []) u32).own_val (at-latches δ) (slice_at latches ∷ [])) ⊛ ‵ (LentShared u32 κ₂ (ν₂
         ∷ []) q₂ latches.ghost_name latches.ref_ptr.0 latches.ref_ptr.1 latches.now)))) (lends_shared u32 κ₂ (ν₂
@@ -889,7 +889,7 @@ module _ {M : Type 1} {𝓤 : Ura M} (𝓛 : Logic 𝓤) (at_mem : Memory → SP
         (no_more !)))) (from ! (stop !)) (init ! 104 refl (tt, (tt, (record { fits = table_room.0 }, tt)))) $
         lft_new ! tt (λ ν₃. move ! (4 ∷ []) $
         use1 𝓛 (later (some (λ (δ : GName). ‵ ((MutSlice (named 0) (ν₃ ∷ []) L.the_row).own_val (at_table l₂₆ δ empty) (slice_val (l₂₆, 0) table_size ∷ [])) ⊛ ‵ (flent (ν₃
-        ∷ []) (Held L.the_row table_size l₂₆ 0 δ))))) (lends-array L.the_row table_size 𝓛 (named 0) (ν₃ ∷ []) l₂₆ empty table_room) $ await ! tt $ pick ! (λ δ₃. split ! $
+        ∷ []) (Held L.the_row table_size l₂₆ 0 δ))))) (lends_array L.the_row table_size 𝓛 (named 0) (ν₃ ∷ []) l₂₆ empty table_room) $ await ! tt $ pick ! (λ δ₃. split ! $
         move ! (2 ∷ 15 ∷ 0 ∷ 35 ∷ []) $ group ! 4 $
         use1 𝓛 (raw ((Of-backs 𝓛 at_mem run).pre (to₂ l₂₆ ν₃ δ₃))) (goes₂ l₂₆ ν₃ δ₃) $
         calls_at ! fm (Of-backs 𝓛 at_mem run) known-backs (to₂ l₂₆ ν₃ δ₃) (and_then ! (load ! (from ! (stop !)) (look ! 103 refl)) (and_then ! (load ! (from ! (stop !))
@@ -944,7 +944,7 @@ module _ {M : Type 1} {𝓤 : Ura M} (𝓛 : Logic 𝓤) (at_mem : Memory → SP
         (no_more !)))) (from ! (stop !)) (init ! 51 refl (tt, (tt, (record { fits = marks-fits.0 }, tt)))) $
         lft_new ! tt (λ ν₄. move ! (3 ∷ []) $
         use1 𝓛 (later (some (λ (δ : GName). ‵ ((MutSlice (named 0) (ν₄ ∷ []) L.the_row).own_val (at_table l₂₅ δ zs₁.0) (slice_val (l₂₅, 0) table_size ∷ [])) ⊛ ‵ (flent (ν₄
-        ∷ []) (Held L.the_row table_size l₂₅ 0 δ))))) (lends-array L.the_row table_size 𝓛 (named 0) (ν₄ ∷ []) l₂₅ zs₁.0 table_room) $ await ! tt $ pick ! (λ δ₄. split ! $
+        ∷ []) (Held L.the_row table_size l₂₅ 0 δ))))) (lends_array L.the_row table_size 𝓛 (named 0) (ν₄ ∷ []) l₂₅ zs₁.0 table_room) $ await ! tt $ pick ! (λ δ₄. split ! $
         lft_new ! tt (λ ν₅. move ! (4 ∷ []) $
         use1 𝓛 (later (some (λ (δ : GName). ‵ ((ShrSlice (named 0) (ν₅ ∷ []) L.the_row).own_val (at_table l₂₆ δ zs₂.0) (slice_val (l₂₆, 0) table_size ∷ [])) ⊛ ‵ (flent (ν₅
         ∷ []) (Shared L.the_row table_size zs₂.0 l₂₆))))) (shares_array L.the_row table_size 𝓛 (named 0) (ν₅ ∷ []) l₂₆ zs₂.0 table_room) $ await ! tt $ pick ! (λ δ₅. split ! $
@@ -987,7 +987,7 @@ module _ {M : Type 1} {𝓤 : Ura M} (𝓛 : Logic 𝓤) (at_mem : Memory → SP
         move ! (19 ∷ []) $ lft_end ! tt $ move ! (0 ∷ 35 ∷ 31 ∷ []) $
         use3 𝓛 (later (‵ (Lying L.the_row table_size zs₃.1.1.0 l₂₅))) (slice_back 𝓛 L.the_row (ν₄ ∷ []) δ₄ zs₃.1.1.0 table_size l₂₅ 0) $ await ! tt $
         move ! (11 ∷ []) $ lft_end ! tt $ move ! (0 ∷ 33 ∷ []) $
-        use2 𝓛 (later (‵ (Lying L.the_row table_size zs₂.0 l₂₆))) (shared-array L.the_row table_size 𝓛 (ν₅ ∷ []) l₂₆ zs₂.0) $ await ! tt $
+        use2 𝓛 (later (‵ (Lying L.the_row table_size zs₂.0 l₂₆))) (shared_array L.the_row table_size 𝓛 (ν₅ ∷ []) l₂₆ zs₂.0) $ await ! tt $
         -- what is had, in order
         forget ! 106 refl $ forget ! 104 refl $ forget ! 102 refl $ forget ! 100 refl $ forget ! 98 refl $ forget ! 96 refl $ forget ! 94 refl $ forget ! 92 refl $ forget ! 90 refl $
         forget ! 88 refl $ forget ! 86 refl $ forget ! 84 refl $ forget ! 82 refl $ forget ! 80 refl $ forget ! 78 refl $ forget ! 76 refl $ forget ! 74 refl $ forget ! 72 refl $

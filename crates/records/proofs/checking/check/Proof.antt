@@ -58,7 +58,7 @@ use Rattle.records.specs.Checking.{check_with, check_refused}
 use Rattle.records.specs.Table.{laid_out}
 use Rattle.records.specs.Working.{worked}
 use Rattle.records.specs.Steps.{on_words}
-use Rattle.records.proofs.Working.{on-records}
+use Rattle.records.proofs.Working.{on_records_lem}
 use Rattle.records.proofs.Again.{LentAgain, lends_again, comes_back}
 use Rattle.records.specs.contracts.words.to_words as h
 use Rattle.records.proofs.words.to_words.Symbol as h-def
@@ -198,7 +198,7 @@ module _ {M : Type 1} {𝓤 : Ura M} (𝓛 : Logic 𝓤) (at_mem : Memory → SP
       (flft κ₁₀ q₁₀) ∷ ‵ ((N.the_row).own_val r (v ∷ [])) ∷ ‵ (finally u32 words.name words') ∷ ‵ (finally u32 marks.name marks') ∷ []) ∵ suffices ! _
       (ends_at 𝓛 f.ended stayed (f.clauses 𝓛 at_mem run) bound v r (tt, (tt, (tt, (tt, (tt, (tt, (tt, (tt, (tt, (tt, (words', (marks', tt))))))))))))
       (tt, (tt, (tt, (tt, (tt, (tt, (tt, (tt, (tt, (tt, (len-words, (len-marks, tt))))))))))))) $ says !
-      (e ∙ (ap (λ (z : List ℕ). on_words (length latches.now) z Call Refused) e₀ ∙ on-records Call Refused latches.now words.now)) $ nothing ! $ move ! (11 ∷ 0 ∷ []) $ join ! $ move
+      (e ∙ (ap (λ (z : List ℕ). on_words (length latches.now) z Call Refused) e₀ ∙ on_records_lem Call Refused latches.now words.now)) $ nothing ! $ move ! (11 ∷ 0 ∷ []) $ join ! $ move
       ! (10 ∷ 0 ∷ []) $ join ! $ move ! (9 ∷ 0 ∷ []) $ join ! $ move ! (8 ∷ 0 ∷ []) $ join ! $ move ! (7 ∷ 0 ∷ []) $ join ! $ move ! (6 ∷ 0 ∷ []) $ join ! $ move ! (5 ∷ 0 ∷ []) $ join ! $
       move ! (4 ∷ 0 ∷ []) $ join ! $ move ! (3 ∷ 0 ∷ []) $ join ! $ move ! (2 ∷ 0 ∷ []) $ join ! $ move ! (1 ∷ 0 ∷ []) $ join ! $ frame ! $ nothing ! $ move ! (3 ∷ 0 ∷ []) $ fjoin ! $ move !
       (2 ∷ 0 ∷ []) $ fjoin ! $ nothing ! $ fjoin ! $ nothing ! $ fjoin ! $ nothing ! $ fjoin ! $ nothing ! $ fjoin ! $ nothing ! $ fjoin ! $ nothing ! $ fjoin ! $ nothing ! $ fjoin ! $

@@ -56,7 +56,7 @@ use Rattle.records.specs.Table.{no_latch}
 use Rattle.records.specs.Local.{table_size, empty, held}
 use Rattle.records.specs.Working.{worked, on_records}
 use Rattle.records.specs.Checking.{check_with, check_refused}
-use Rattle.records.proofs.Arrays.{Lying, Shared, filled, filled-typed, array-room, lends-array, shares_array, shared-array}
+use Rattle.records.proofs.Arrays.{Lying, Shared, filled, filled_typed, array_room, lends_array, shares_array, shared_array}
 use Rattle.records.proofs.Finding.{is_none}
 use Rattle.records.proofs.Listing.{k_vals}
 use Rattle.records.proofs.Local.{at_table, table_room}
@@ -329,7 +329,7 @@ module _ {M : Type 1} {𝓤 : Ura M} (𝓛 : Logic 𝓤) (at_mem : Memory → SP
         assigns ! (agg ! (and_then ! (lit ! tt) (and_then ! (lit ! tt) (and_then ! (lit ! tt) (no_more !))))) (from ! (stop !))
         (init ! 42 refl ((LL.lawful L.the_type L'.the_laws 𝓛).typed no_latch (l_vals no_latch) is_none).0) $
         assigns ! (rep ! table_size (load ! (from ! (stop !)) (look ! 42 refl))) (from ! (stop !))
-        (init ! 40 refl (filled-typed L.the_row table_size 𝓛 (LL.lawful L.the_type L'.the_laws 𝓛) no_latch (only (l_vals no_latch)) is_none)) $
+        (init ! 40 refl (filled_typed L.the_row table_size 𝓛 (LL.lawful L.the_type L'.the_laws 𝓛) no_latch (only (l_vals no_latch)) is_none)) $
         move ! (40 ∷ []) $ use1 𝓛 (‵ (Lying L.the_row table_size empty l₁₄))
         (filled L.the_row table_size 𝓛 tt (LL.makes L.the_type L'.the_plain 𝓛) no_latch (only (l_vals no_latch)) is_none l₁₄) $
         assigns ! (addr ! (from ! (stop !))) (from ! (stop !)) (init ! 37 refl (tt, tt)) $
@@ -340,7 +340,7 @@ module _ {M : Type 1} {𝓤 : Ura M} (𝓛 : Logic 𝓤) (at_mem : Memory → SP
         (later
         (some
         (λ (δ : GName). ‵ ((MutSlice (named 0) (ν₁ ∷ []) L.the_row).own_val (at_table l₁₄ δ empty) (slice_val (l₁₄, 0) table_size ∷ [])) ⊛ ‵ (flent (ν₁ ∷ []) (Held L.the_row table_size l₁₄ 0 δ)))))
-        (lends-array L.the_row table_size 𝓛 (named 0) (ν₁ ∷ []) l₁₄ empty table_room) $ await ! tt $ pick ! (λ δ₁. split ! $
+        (lends_array L.the_row table_size 𝓛 (named 0) (ν₁ ∷ []) l₁₄ empty table_room) $ await ! tt $ pick ! (λ δ₁. split ! $
         move ! (2 ∷ 11 ∷ 0 ∷ 22 ∷ []) $ group ! 4 $
         use1 𝓛 (raw ((Of-backs 𝓛 at_mem run).pre (to₁ l₁₄ ν₁ δ₁))) (goes₁ l₁₄ ν₁ δ₁) $
         calls_at ! fm (Of-backs 𝓛 at_mem run) known-backs (to₁ l₁₄ ν₁ δ₁)
@@ -408,11 +408,11 @@ module _ {M : Type 1} {𝓤 : Ura M} (𝓛 : Logic 𝓤) (at_mem : Memory → SP
         move ! (1 ∷ []) $ split ! $ move ! (1 ∷ []) $ split ! $ move ! (1 ∷ []) $ split ! $ move ! (1 ∷ []) $ split ! $ move ! (1 ∷ []) $ split ! $ move ! (1 ∷ []) $ drop ! $ move ! (11 ∷ []) $
         peeks ! N.the_row (Is N.the_row) (shows 𝓛 N.the_row) r₂ (u₂ ∷ []) (λ is₂. land ! (from ! (stop !)) (init ! 61 refl ((EL.lawful N.the_type N'.the_laws 𝓛 tt).typed r₂ _ is₂).0) $
         move ! (9 ∷ []) $ lft_end ! tt $ move ! (0 ∷ 14 ∷ []) $
-        use2 𝓛 (later (‵ (Lying L.the_row table_size zs₁.0 l₁₄))) (shared-array L.the_row table_size 𝓛 (ν₂ ∷ []) l₁₄ zs₁.0) $ await ! tt $
+        use2 𝓛 (later (‵ (Lying L.the_row table_size zs₁.0 l₁₄))) (shared_array L.the_row table_size 𝓛 (ν₂ ∷ []) l₁₄ zs₁.0) $ await ! tt $
         returns ! (look ! 60 refl) $ forget ! 60 refl $ forget ! 58 refl $ forget ! 56 refl $ forget ! 54 refl $ forget ! 52 refl $ forget ! 50 refl $ forget ! 48 refl $ forget ! 46 refl $
         forget ! 44 refl $ forget ! 42 refl $ forget ! 40 refl $ forget ! 38 refl $ forget ! 36 refl $ forget ! 34 refl $ forget ! 31 refl $ forget ! 29 refl $ forget ! 27 refl $ forget ! 25 refl $
         forget ! 23 refl $ forget ! 21 refl $ forget ! 19 refl $ forget ! 17 refl $ forget ! 15 refl $
-        use1 𝓛 (‵ (froom (local_type (code.function).locals 14) l₁₄ 0)) (array-room L.the_row table_size 𝓛 zs₁.0 l₁₄) $
+        use1 𝓛 (‵ (froom (local_type (code.function).locals 14) l₁₄ 0)) (array_room L.the_row table_size 𝓛 zs₁.0 l₁₄) $
         keep !
         (60 ∷ 61 ∷ 58 ∷ 59 ∷ 56 ∷ 57 ∷ 54 ∷ 55 ∷ 52 ∷ 53 ∷ 50 ∷ 51 ∷ 48 ∷ 49 ∷ 46 ∷ 47 ∷ 44 ∷ 45 ∷ 42 ∷ 43 ∷ 40 ∷ 41 ∷ 38 ∷ 39 ∷ 36 ∷ 37 ∷ 34 ∷ 35 ∷ 0 ∷ 33 ∷ 31 ∷ 32 ∷ 29 ∷ 30 ∷ 27 ∷ 28 ∷ 25
         ∷ 26 ∷ 23 ∷ 24 ∷ 21 ∷ 22 ∷ 19 ∷ 20 ∷ 17 ∷ 18 ∷ 15 ∷ 16 ∷ 11 ∷ 10 ∷ 14 ∷ 9 ∷ 8 ∷ 7 ∷ 6 ∷ 5 ∷ 4 ∷ 3 ∷ 2 ∷ 1 ∷ 13 ∷ 12 ∷ []) $

@@ -54,7 +54,7 @@ use Rattle.records.proofs.table.Found.TheLaws as F'
 use Rattle.records.specs.Table.{no_latch, laid_out}
 use Rattle.records.specs.Entries.{found_seen, latch_call, table_seen, next_call}
 use Rattle.records.specs.Local.{table_size, empty, held, entry_seen, next_through}
-use Rattle.records.proofs.Arrays.{Lying, Shared, filled, filled-typed, array-room, lends-array, shares_array, shared-array}
+use Rattle.records.proofs.Arrays.{Lying, Shared, filled, filled_typed, array_room, lends_array, shares_array, shared_array}
 use Rattle.records.proofs.Finding.{is_none}
 use Rattle.records.proofs.Local.{at_table, table_room, next_right}
 use Rattle.records.proofs.Locals.{local_type, slice_at}
@@ -252,7 +252,7 @@ module _ {M : Type 1} {𝓤 : Ura M} (𝓛 : Logic 𝓤) (at_mem : Memory → SP
         assigns ! (agg ! (and_then ! (lit ! tt) (and_then ! (lit ! tt) (and_then ! (lit ! tt) (no_more !))))) (from ! (stop !))
         (init ! 34 refl ((LL.lawful L.the_type L'.the_laws 𝓛).typed no_latch (l_vals no_latch) is_none).0) $
         assigns ! (rep ! table_size (load ! (from ! (stop !)) (look ! 34 refl))) (from ! (stop !))
-        (init ! 32 refl (filled-typed L.the_row table_size 𝓛 (LL.lawful L.the_type L'.the_laws 𝓛) no_latch (only (l_vals no_latch)) is_none)) $
+        (init ! 32 refl (filled_typed L.the_row table_size 𝓛 (LL.lawful L.the_type L'.the_laws 𝓛) no_latch (only (l_vals no_latch)) is_none)) $
         move ! (32 ∷ []) $ use1 𝓛 (‵ (Lying L.the_row table_size empty l₅)) (filled L.the_row table_size 𝓛 tt (LL.makes L.the_type L'.the_plain 𝓛) no_latch (only (l_vals no_latch)) is_none l₅) $
         assigns ! (addr ! (from ! (stop !))) (from ! (stop !)) (init ! 27 refl (tt, tt)) $
         assigns ! (agg ! (and_then ! (load ! (from ! (stop !)) (look ! 27 refl)) (and_then ! (lit ! tt) (no_more !)))) (from ! (stop !))
@@ -265,7 +265,7 @@ module _ {M : Type 1} {𝓤 : Ura M} (𝓛 : Logic 𝓤) (at_mem : Memory → SP
         (later
         (some
         (λ (δ : GName). ‵ ((MutSlice (named 0) (ν₁ ∷ []) L.the_row).own_val (at_table l₅ δ empty) (slice_val (l₅, 0) table_size ∷ [])) ⊛ ‵ (flent (ν₁ ∷ []) (Held L.the_row table_size l₅ 0 δ)))))
-        (lends-array L.the_row table_size 𝓛 (named 0) (ν₁ ∷ []) l₅ empty table_room) $ await ! tt $ pick ! (λ δ₁. split ! $
+        (lends_array L.the_row table_size 𝓛 (named 0) (ν₁ ∷ []) l₅ empty table_room) $ await ! tt $ pick ! (λ δ₁. split ! $
         lft_new ! tt (λ ν₂. move ! (5 ∷ 4 ∷ []) $
         use2 𝓛
         (later
@@ -304,7 +304,7 @@ module _ {M : Type 1} {𝓤 : Ura M} (𝓛 : Logic 𝓤) (at_mem : Memory → SP
         (later
         (some
         (λ (δ : GName). ‵ ((MutSlice (named 0) (ν₃ ∷ []) L.the_row).own_val (at_table l₅ δ zs₁.0) (slice_val (l₅, 0) table_size ∷ [])) ⊛ ‵ (flent (ν₃ ∷ []) (Held L.the_row table_size l₅ 0 δ)))))
-        (lends-array L.the_row table_size 𝓛 (named 0) (ν₃ ∷ []) l₅ zs₁.0 table_room) $ await ! tt $ pick ! (λ δ₃. split ! $
+        (lends_array L.the_row table_size 𝓛 (named 0) (ν₃ ∷ []) l₅ zs₁.0 table_room) $ await ! tt $ pick ! (λ δ₃. split ! $
         move ! (2 ∷ 0 ∷ []) $ group ! 2 $
         use1 𝓛 (raw ((Of-sets 𝓛 at_mem run).pre (to₂ l₅ ν₃ δ₃ zs₁.0))) (goes₂ l₅ ν₃ δ₃ zs₁.0) $
         calls_at ! fm (Of-sets 𝓛 at_mem run) known-sets (to₂ l₅ ν₃ δ₃ zs₁.0)
@@ -351,7 +351,7 @@ module _ {M : Type 1} {𝓤 : Ura M} (𝓛 : Logic 𝓤) (at_mem : Memory → SP
         split ! $ split ! $ move ! (1 ∷ []) $ drop ! $ move ! (1 ∷ []) $
         peeks ! F.the_row (Is F.the_row) (shows 𝓛 F.the_row) r₃ (u₃ ∷ []) (λ is₃. land ! (from ! (stop !)) (init ! 33 refl ((LL.lawful F.the_type F'.the_laws 𝓛).typed r₃ _ is₃).0) $
         move ! (1 ∷ []) $ lft_end ! tt $ move ! (0 ∷ 2 ∷ []) $
-        use2 𝓛 (later (‵ (Lying L.the_row table_size zs₂.0 l₅))) (shared-array L.the_row table_size 𝓛 (ν₄ ∷ []) l₅ zs₂.0) $ await ! tt $
+        use2 𝓛 (later (‵ (Lying L.the_row table_size zs₂.0 l₅))) (shared_array L.the_row table_size 𝓛 (ν₄ ∷ []) l₅ zs₂.0) $ await ! tt $
         -- the records go back to the words
         assigns ! (addr ! (from ! (stop !))) (from ! (stop !)) (init ! 10 refl (tt, tt)) $
         assigns ! (agg ! (and_then ! (load ! (from ! (stop !)) (look ! 10 refl)) (and_then ! (lit ! tt) (no_more !)))) (from ! (stop !))
@@ -382,12 +382,12 @@ module _ {M : Type 1} {𝓤 : Ura M} (𝓛 : Logic 𝓤) (at_mem : Memory → SP
         move ! (1 ∷ []) $ split ! $ split ! $ move ! (1 ∷ []) $ split ! $ move ! (1 ∷ []) $ drop ! $ move ! (2 ∷ []) $
         peeks ! unit (Is unit) (shows 𝓛 unit) r₄ (u₄ ∷ []) (λ is₄. land ! (from ! (stop !)) (store ! 32 refl ((Nothing-Lawful 𝓛).typed r₄ (u₄ ∷ []) is₄).0) $ drop ! $
         move ! (1 ∷ []) $ lft_end ! tt $ move ! (0 ∷ 3 ∷ []) $
-        use2 𝓛 (later (‵ (Lying L.the_row table_size zs₂.0 l₅))) (shared-array L.the_row table_size 𝓛 (ν₅ ∷ []) l₅ zs₂.0) $ await ! tt $
+        use2 𝓛 (later (‵ (Lying L.the_row table_size zs₂.0 l₅))) (shared_array L.the_row table_size 𝓛 (ν₅ ∷ []) l₅ zs₂.0) $ await ! tt $
         assigns ! (of_opd ! (load ! (from ! (stop !)) (look ! 32 refl))) (from ! (stop !)) (init ! 43 refl ((LL.lawful F.the_type F'.the_laws 𝓛).typed r₃ _ is₃).0) $
         returns ! (look ! 43 refl) $ forget ! 43 refl $ forget ! 41 refl $ forget ! 39 refl $ forget ! 37 refl $ forget ! 35 refl $ forget ! 32 refl $ forget ! 30 refl $ forget ! 28 refl $
         forget ! 26 refl $ forget ! 24 refl $ forget ! 22 refl $ forget ! 20 refl $ forget ! 18 refl $ forget ! 16 refl $ forget ! 14 refl $ forget ! 12 refl $ forget ! 10 refl $ forget ! 8 refl $
         forget ! 6 refl $ forget ! 4 refl $
-        use1 𝓛 (‵ (froom (local_type (code.function).locals 5) l₅ 0)) (array-room L.the_row table_size 𝓛 zs₂.0 l₅) $
+        use1 𝓛 (‵ (froom (local_type (code.function).locals 5) l₅ 0)) (array_room L.the_row table_size 𝓛 zs₂.0 l₅) $
         keep !
         (43 ∷ 44 ∷ 41 ∷ 42 ∷ 39 ∷ 40 ∷ 37 ∷ 38 ∷ 35 ∷ 36 ∷ 0 ∷ 34 ∷ 32 ∷ 33 ∷ 30 ∷ 31 ∷ 28 ∷ 29 ∷ 26 ∷ 27 ∷ 24 ∷ 25 ∷ 22 ∷ 23 ∷ 20 ∷ 21 ∷ 18 ∷ 19 ∷ 16 ∷ 17 ∷ 14 ∷ 15 ∷ 12 ∷ 13 ∷ 10 ∷ 11 ∷ 8
         ∷ 9 ∷ 6 ∷ 7 ∷ 4 ∷ 5 ∷ 1 ∷ 3 ∷ 2 ∷ []) $

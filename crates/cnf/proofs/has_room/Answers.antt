@@ -1,0 +1,46 @@
+-- `cnf::has_room` meets its contract.
+use native.Mathlib.Omega.{arith}
+use Prim.Native.Nat.{ℕ}
+use mathlib.Core.Path.{refl, ap}
+use mathlib.Core.List.{List}
+use lib.Dec.{leb}
+use Rattle.root_marks.specs.Roots.{roots_in}
+use Rattle.cnf.proofs.Calling.{room_for_most, room_for_gates, gates_few}
+use borrow.Author.Rules.{rules}
+use Rattle.cnf.proofs.has_room.Goals as goal
+
+pub overflow_sub-most : goal.overflow_sub-most
+overflow_sub-most c = omega (arith, c.requires.clauses_ready.some_row)
+
+pub overflow_mul-most : goal.overflow_mul-most
+overflow_mul-most c = omega (arith, c.requires.clauses_ready.rows_few)
+
+pub overflow_add-most : goal.overflow_add-most
+overflow_add-most c = omega (arith, c.requires.clauses_ready.rows_few)
+
+pub returns-then-most-room : goal.returns-then-most-room
+returns-then-most-room c =
+    let roots = roots_in c.args.latches.now c.args.constraints.now c.args.bads.now c.args.outputs.now c.args.edges.now c.args.fairness.now c.args.counts in
+    let a = c.args in
+    (room_for_most a.shortcuts a.rows.now (roots) a.marks.now a.room c.requires.clauses_ready c.if-most-room.true, refl)
+
+pub gates_below-requires : goal.gates_below-requires
+gates_below-requires c = c.requires.clauses_ready.rows_there
+
+-- ?? overflow-mul-if2
+-- mul-if2 c = let s = c.before.before.before.before.before.before.before.before.before.before in omega (arith, gates_few s.args.rows.now c.gates_below_lem.ensures s.requires.1.rows_few)
+
+-- ?? overflow-add-if2
+-- add-if2 c = let s = c.before.before.before.before.before.before.before.before.before.before in omega (arith, gates_few s.args.rows.now c.gates_below_lem.ensures s.requires.1.rows_few)
+
+pub returns-then-gates_below-room : goal.returns-then-gates_below-room
+returns-then-gates_below-room c =
+    let roots = roots_in c.args.latches.now c.args.constraints.now c.args.bads.now c.args.outputs.now c.args.edges.now c.args.fairness.now c.args.counts in
+    let a = c.args in
+    (room_for_gates a.shortcuts a.rows.now (roots) a.marks.now a.room c.gates_below.ensures c.if-gates_below-room.true, refl)
+
+pub put_words-need-requires : goal.put_words-need-requires
+put_words-need-requires c = c.requires
+
+pub returns : goal.returns
+returns c = record { fits = ap (λ (n : ℕ). leb n c.args.room) c.put_words-need.ensures.number; kept = c.put_words-need.ensures.written.1 }

@@ -1,0 +1,26 @@
+-- `coi::ids_used` meets its contract.
+use Prim.Native.Nat.{◌-◌, ◌≤◌}
+use native.Mathlib.Omega.{arith}
+use mathlib.Core.Path.{◌≡◌, refl, sym, ◌∙◌}
+use lib.ListN.{length, drop}
+use borrow.Author.Tests.{lt-ltb, le-ltb}
+use Rattle.root_marks.specs.Arguments.{every}
+use Rattle.root_marks.proofs.Arguments.{every_end, every_stops, every_goes}
+use Rattle.coi.specs.Coi.{used_row}
+use borrow.Author.Rules.{rules}
+use Rattle.coi.proofs.ids_used.Goals as goal
+
+pub loop-k-init : goal.loop-k-init
+loop-k-init c = (search rules, refl)
+
+-- ?? overflow-cast-if1
+-- cast-if1 c = omega (arith, c.shared-slice-known.given c.before.before.loop.k)
+
+pub returns-then-used-ids : goal.returns-then-used-ids
+returns-then-used-ids c = sym (every_stops _ _ _ c.loop-k-test.true (le-ltb _ _ c.if-used-ids.true)) ∙ c.loop-k.invariant.1
+
+pub loop-k-preserved : goal.loop-k-preserved
+loop-k-preserved c = (search rules, sym (every_goes _ _ _ c.loop-k-test.true (lt-ltb _ _ c.if-used-ids.false)) ∙ c.loop-k.invariant.1)
+
+pub returns : goal.returns
+returns c = sym (every_end _ _ _ c.loop-k-test.false) ∙ c.loop-k.invariant.1

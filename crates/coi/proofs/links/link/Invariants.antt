@@ -1,0 +1,16 @@
+use Prim.Native.Nat.{◌-◌, ◌≤◌}
+use native.Mathlib.Omega.{arith}
+use native.Mathlib.Nat.{le_antisymm}
+use mathlib.Core.Path.{◌≡◌, refl, ap}
+use lib.ListN.{length}
+use Rattle.graph.specs.declared.latch.Latch.{Latch}
+use Rattle.coi.specs.Steps.{Links}
+use Rattle.coi.proofs.Linking.{links_none, links_more}
+use borrow.Author.Rules.{rules}
+use Rattle.coi.proofs.links.link.Given as goal
+
+abbrev pub invariant-loop-k : goal.invariant-loop-k
+invariant-loop-k l = (l.k ≤ l.n) × (length l.marks ≡ length l.initial.marks) × Links l.latches l.k l.marks
+
+abbrev pub decreases-loop-k : goal.decreases-loop-k
+decreases-loop-k l = l.n - l.k

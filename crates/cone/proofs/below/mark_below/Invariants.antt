@@ -1,0 +1,13 @@
+use Prim.Native.Nat.{◌-◌, ◌≤◌}
+use mathlib.Core.Path.{◌≡◌, sym, ap, ◌∙◌}
+use lib.ListN.{length}
+use Rattle.cone.specs.Cone.{mark_below}
+use Rattle.cone.proofs.Marking.{below_turn, below_end}
+use borrow.Author.Rules.{rules}
+use Rattle.cone.proofs.below.mark_below.Given as goal
+
+abbrev pub invariant-loop-i : goal.invariant-loop-i
+invariant-loop-i l = (l.i ≤ length l.initial.flags) × (length l.flags ≡ length l.initial.flags) × (mark_below l.rows l.i l.flags ≡ mark_below l.rows (length l.initial.flags) l.initial.flags)
+
+abbrev pub decreases-loop-i : goal.decreases-loop-i
+decreases-loop-i l = l.i

@@ -1,0 +1,6 @@
+-- `edge::answer::is_done` meets its contract.
+use borrow.Author.Rules.{rules}
+use Rattle.edge.proofs.answer.is_done.Goals as goal
+
+pub returns : goal.returns
+returns c = rw c.told.ensures

@@ -1,0 +1,6 @@
+-- `edge::is_const` meets its contract.
+use borrow.Author.Rules.{rules}
+use Rattle.edge.proofs.is_const.Goals as goal
+
+pub returns : goal.returns
+returns c = rw c.node_id.ensures

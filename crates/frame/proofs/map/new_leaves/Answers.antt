@@ -1,0 +1,31 @@
+-- `frame::map::new_leaves` meets its contract.
+use Prim.Native.Nat.{◌+◌, ◌-◌, ◌≤◌}
+use mathlib.Core.Path.{◌≡◌}
+use mathlib.Core.Logic.{⊎_elim}
+use lib.ListN.{length}
+use Rattle.frame.specs.Steps.{new_leaves}
+use Rattle.frame.proofs.Bounding.{leaves_start, leaves_ended, leaves_one, leaves_no, one_more, no_more}
+use borrow.Author.Rules.{rules}
+use Rattle.frame.proofs.map.new_leaves.Goals as goal
+
+pub loop-i-init : goal.loop-i-init
+loop-i-init c = (search rules, search rules, leaves_start c.args.from.now c.args.map.now (length c.args.map.now))
+
+pub loop-i-preserved : goal.loop-i-preserved
+loop-i-preserved c =
+    let a = c.args in
+    let l = c.loop-i in
+    let n = length a.map.now in
+    let t = c.loop-i-test.true in (
+      search rules,
+      ⊎_elim (λ w. one_more l.n l.i l.invariant.1 w.1) (λ w. no_more l.n l.i l.invariant.1 w.1) c.if-from-i.branch,
+      ⊎_elim (λ w. leaves_one a.from.now a.map.now n l.i l.n (new_leaves a.from.now a.map.now 0 n) l.invariant.2 t w.0.taken w.1)
+          (λ w. leaves_no a.from.now a.map.now n l.i l.n (new_leaves a.from.now a.map.now 0 n) l.invariant.2 t w.0.left w.1) c.if-from-i.branch,
+    )
+
+pub returns : goal.returns
+returns c =
+    let a = c.args in
+    let l = c.loop-i in
+    let n = length a.map.now in
+    leaves_ended a.from.now a.map.now n l.i l.n (new_leaves a.from.now a.map.now 0 n) l.invariant.2 c.loop-i-test.false

@@ -1,0 +1,56 @@
+-- `frame::most` meets its contract.
+use native.Mathlib.Omega.{arith}
+use mathlib.Core.Path.{sym, ap, ◌∙◌}
+use lib.ListN.{length}
+use Rattle.frame.proofs.Ready.{part_long, map_part, map_cleared}
+use Rattle.frame.proofs.Bounding.{leaves_few, most_told}
+use borrow.Author.Rules.{rules}
+use Rattle.frame.proofs.most.Goals as goal
+
+pub slice_bounds-start_map-end-2 : goal.slice_bounds-start_map-end-2
+slice_bounds-start_map-end-2 c =
+    let a = c.args in
+    omega (arith, part_long a.counts2.rows a.marks.now c.requires.addable_2.1.0.2)
+
+pub start_map-requires : goal.start_map-requires
+start_map-requires c =
+    let a = c.args in
+    let p = c.requires in rw (part_long a.counts2.rows a.marks.now p.1.1.0.2) record { map_nonzero = p.1.1.0.0; latches_within = p.1.1.1 }
+
+pub slice_bounds-new_leaves-end-2 : goal.slice_bounds-new_leaves-end-2
+slice_bounds-new_leaves-end-2 c =
+    let a = c.args in
+    let h = c.requires.addable_2.1.0.2 in
+    let k = c.start_map.auto.map ∙ part_long a.counts2.rows a.marks.now h in
+    sym (ap length (map_part a.counts2.rows a.marks.now h c.start_map.new.map k) ∙ k)
+
+pub new_leaves-leaves-requires : goal.new_leaves-leaves-requires
+new_leaves-leaves-requires c =
+    let a = c.args in
+    let p = c.requires in
+    let h = p.1.1.0.2 in
+    let k = c.start_map.auto.map ∙ part_long a.counts2.rows a.marks.now h in
+    rw (map_part a.counts2.rows a.marks.now h c.start_map.new.map k, k) (p.1.1.0.1, p.1.0.rows)
+
+-- ?? overflow-add-t17
+-- add-t17 c =
+--     let at-new-leaves = c.before.before.before.before.before.before in
+--     let at-start-map = at-new-leaves.before.before.before.before in
+--     let back15 = at-start-map.before.before.before.before.before in
+--     let a = back15.args in
+--     let p = back15.requires in
+--     let h = p.1.1.0.2 in
+--     let k = at-start-map.start-map.auto.1.1.0 ∙ part_long a.counts2.rows a.marks.now h in
+--     let w = leaves_few a.rows2.now a.counts2.rows (map_part a.counts2.rows a.marks.now h at-start-map.start-map.new.1.1.0 k) k at-new-leaves.new-leaves.ensures in
+--     omega (arith, w, p.0.inputs, p.1.0.rows)
+
+pub returns : goal.returns
+returns c =
+    let a = c.args in
+    let h = c.requires.addable_2.1.0.2 in
+    let m = c.start_map.new.map in
+    let k = c.start_map.auto.map ∙ part_long a.counts2.rows a.marks.now h in record {
+      value = most_told a.counts a.latches.now a.rows2.now a.counts2 a.marks.now h c.start_map.ensures (map_part a.counts2.rows a.marks.now h m k)
+          c.new_leaves-leaves.ensures c.raised.ensures;
+      marks_after = c.clear.ensures ∙ map_cleared a.counts2.rows a.marks.now h m k;
+    }

@@ -1,0 +1,27 @@
+-- `frame::needed` meets its contract.
+use native.Mathlib.Omega.{arith}
+use mathlib.Core.Path.{◌∙◌}
+use Rattle.frame.proofs.Ready.{part_long, map_cleared, need_told}
+use borrow.Author.Rules.{rules}
+use Rattle.frame.proofs.needed.Goals as goal
+
+pub slice_bounds-frame_of-end-4 : goal.slice_bounds-frame_of-end-4
+slice_bounds-frame_of-end-4 c =
+    let a = c.args in
+    omega (arith, part_long a.counts2.rows a.marks.now c.requires.addable.1.1.0.2)
+
+pub frame_of-reached-requires : goal.frame_of-reached-requires
+frame_of-reached-requires c =
+    let a = c.args in
+    let p = c.requires in
+    rw (part_long a.counts2.rows a.marks.now p.1.1.1.0.2) (p.0, ((p.1.1.1.0.0, p.1.1.1.0.1, p.1.1.0.rows), ((p.1.0.rows, p.1.0.inputs), p.1.1.1.1)))
+
+pub returns : goal.returns
+returns c =
+    let a = c.args in
+    let p = c.requires in
+    let k = part_long a.counts2.rows a.marks.now p.1.1.1.0.2 in record {
+      value = need_told a.counts a.latches.now a.rows2.now a.counts2 a.marks.now p.1.1.1.0.2 c.frame_of-reached.ensures c.raised.ensures;
+      marks_after = c.clear.ensures ∙ map_cleared a.counts2.rows a.marks.now p.1.1.1.0.2 c.frame_of-reached.new.map
+          (c.frame_of-reached.auto.map ∙ k);
+    }

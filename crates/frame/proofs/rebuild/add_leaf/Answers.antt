@@ -1,0 +1,8 @@
+-- `frame::rebuild::add_leaf` meets its contract.
+use mathlib.Core.Path.{sym}
+use lib.Seq.{set_out}
+use borrow.Author.Rules.{rules}
+use Rattle.frame.proofs.rebuild.add_leaf.Goals as goal
+
+pub returns-else-n-inputs : goal.returns-else-n-inputs
+returns-else-n-inputs c = (c.add_row.ensures, sym (set_out _ _ _ c.if-n-inputs.false))

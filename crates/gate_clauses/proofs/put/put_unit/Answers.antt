@@ -1,0 +1,12 @@
+-- `gate_clauses::put::put_unit` meets its contract.
+use Rattle.gate_clauses.proofs.Writing.{no_room_lem, unit_long, put_unit}
+use Rattle.gate_clauses.specs.Shapes.{unit, words}
+use mathlib.Core.List.{[], ◌∷◌}
+use borrow.Author.Rules.{rules}
+use Rattle.gate_clauses.proofs.put.put_unit.Goals as goal
+
+pub returns-then-clauses-lt2 : goal.returns-then-clauses-lt2
+returns-then-clauses-lt2 c = no_room_lem c.args.clauses.now 0 (words (unit ∷ [])) unit_long c.if-clauses-lt2.true
+
+pub returns : goal.returns
+returns c = λ _. put_unit c.args.clauses.now

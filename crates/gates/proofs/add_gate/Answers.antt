@@ -1,0 +1,7 @@
+-- `gates::add_gate` meets its contract.
+use Rattle.gates.proofs.Building.{gate_added_lem}
+use borrow.Author.Rules.{rules}
+use Rattle.gates.proofs.add_gate.Goals as goal
+
+pub returns : goal.returns
+returns c = gate_added_lem _ _ _ _ _ c.first.ensures c.second.ensures c.add_row.ensures

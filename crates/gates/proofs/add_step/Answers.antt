@@ -1,0 +1,12 @@
+-- `gates::add_step` meets its contract.
+use Rattle.gates.specs.Gates.{add_step}
+use borrow.Author.Rules.{rules}
+use Rattle.gates.proofs.add_step.Goals as goal
+
+pub returns-then-trivial : goal.returns-then-trivial
+unfolding add_step
+returns-then-trivial c = rw c.if-trivial.true c.add_gate.ensures
+
+pub returns : goal.returns
+unfolding add_step
+returns c = rw c.if-trivial.false c.add_and.ensures

@@ -1,0 +1,15 @@
+use Prim.Native.Nat.{◌-◌, ◌≤◌}
+use native.Mathlib.Nat.{sub-zero}
+use mathlib.Core.Path.{◌≡◌, sym, ◌∙◌}
+use borrow.Author.Tests.{not-true, not-false}
+use Rattle.rows.specs.Rows.{row_at}
+use Rattle.graph.specs.Search.{first_bad}
+use Rattle.graph.proofs.Searching.{stops, goes_on, ended}
+use borrow.Author.Rules.{rules}
+use Rattle.graph.proofs.contents.first_bad_row.Given as goal
+
+abbrev pub invariant-loop-i : goal.invariant-loop-i
+invariant-loop-i l = (l.i ≤ l.used) × (first_bad (row_at l.rows) 0 l.used ≡ first_bad (row_at l.rows) l.i (l.used - l.i))
+
+abbrev pub decreases-loop-i : goal.decreases-loop-i
+decreases-loop-i l = l.used - l.i

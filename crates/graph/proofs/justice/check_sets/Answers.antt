@@ -1,0 +1,72 @@
+-- `graph::justice::check_sets` meets its contract.
+use Prim.Native.Nat.{◌-◌, ◌≤◌}
+use native.Mathlib.Omega.{arith}
+use native.Mathlib.Nat.{sub-zero, le_antisymm}
+use mathlib.Core.Path.{◌≡◌, refl, sym, ap, ◌∙◌}
+use lib.ListN.{get_or}
+use borrow.Author.Tests.{not-true, not-false}
+use Rattle.edge.specs.declared.answer.Answer.TheVariants.{Done}
+use Rattle.edge.specs.Answers.{told}
+use Rattle.graph.specs.Search.{first_bad}
+use Rattle.graph.specs.Leaves.{good_edge}
+use Rattle.graph.specs.Justice.{start}
+use Rattle.graph.specs.Check.{set_stage}
+use Rattle.graph.proofs.Searching.{stops, goes_on, ended}
+use Rattle.graph.proofs.Stages.{stage_stops, stage_goes, none_left}
+use Rattle.graph.proofs.Sets.{End, start_next, end_at, set_of_lem, covered}
+use borrow.Author.Rules.{rules}
+use Rattle.graph.proofs.justice.check_sets.Goals as goal
+use Rattle.graph.proofs.justice.check_sets.Goals.{In-sets}
+
+-- the end of the set is good
+good_end : (c : In-sets) →
+    End c.args.sets c.args.n c.sets.s (start c.args.ends.now c.sets.s) (get_or c.args.ends.now c.sets.s 0)
+good_end c = end_at c.args.ends.now c.args.sets c.args.n c.requires.sets_value c.sets.s c.sets-test.true
+
+pub sets-init : goal.sets-init
+sets-init c = (search rules, refl, refl, rw sub-zero)
+
+pub overflow_cast-end : goal.overflow_cast-end
+overflow_cast-end c = omega (arith, c.type_inv.ends c.sets.s)
+
+pub loop-k-init : goal.loop-k-init
+loop-k-init c = (search rules, omega (arith, (good_end (goal.at.loop-k-init c).In-sets).rises, c.sets.invariant.2), c.sets.invariant.1, c.sets.invariant.3)
+
+-- ?? overflow-mul-is-used
+-- mul-is-used c = omega (arith, (good_end c.before.before.before).within)
+
+pub bounds-edges-k : goal.bounds-edges-k
+bounds-edges-k c = omega (arith, (good_end (goal.at.bounds-edges-k c).In-sets).within)
+
+-- ?? overflow-add-t21
+-- add-t21 c = omega (arith, (good_end c.before.before.before.before.before.before).within)
+
+pub overflow_add-k : goal.overflow_add-k
+overflow_add-k c = omega (arith, (good_end (goal.at.overflow_add-k c).In-sets).within)
+
+pub loop-k-preserved : goal.loop-k-preserved
+loop-k-preserved c = (
+  search rules,
+  search rules,
+  c.loop-k.invariant.2,
+  c.loop-k.invariant.3 ∙ goes_on _ _ _ (omega (arith, (good_end (goal.at.loop-k-preserved c).In-sets).within)) (sym c.is_used.ensures ∙ not-false _ c.if-not-is_used.false-raw),
+)
+
+pub sets-preserved : goal.sets-preserved
+sets-preserved c =
+    let k = c.loop-k.invariant.3 in
+    (search rules, c.loop-k.invariant.2, sym (start_next c.args.ends.now c.sets.s), rw (← (le_antisymm c.loop-k.invariant.1 c.loop-k-test.false)) k)
+
+pub returns-after-sets : goal.returns-after-sets
+returns-after-sets c =
+    let done = le_antisymm c.sets.invariant.0 c.sets-test.false in
+    let all = c.sets.invariant.2 ∙ covered c.args.ends.now c.args.sets c.args.n c.requires.sets_value c.sets.s c.requires.sets_in_bounds.2 done in
+    ap told c.sets.invariant.1 ∙ sym (stage_goes _ _ (c.sets.invariant.3 ∙ ended _ _ _ (omega (arith, all))) ∙ none_left)
+
+pub returns-then-not-is_used : goal.returns-then-not-is_used
+returns-then-not-is_used c =
+    let here = set_of_lem c.args.ends.now c.args.sets c.args.n c.requires.sets_value c.sets.s c.loop-k.k c.sets-test.true
+    (omega (arith, c.sets.invariant.2)) c.loop-k-test.true in
+    let first = c.loop-k.invariant.3 ∙ stops _ _ _ (omega (arith, (good_end (goal.at.returns-then-not-is_used c).In-sets).within)) (sym c.is_used.ensures ∙ not-true _ c.if-not-is_used.true-raw) in
+    sym
+    (stage_stops (set_stage c.args.used c.args.ends.now c.args.sets c.args.edges.now c.args.n) _ first ∙ rw (here, ← c.sets.invariant.2) refl)

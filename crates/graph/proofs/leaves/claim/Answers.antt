@@ -1,0 +1,18 @@
+-- `graph::leaves::claim` meets its contract.
+use mathlib.Core.Path.{refl, sym}
+use borrow.Author.Tests.{lt-ltb, le-ltb}
+use Rattle.graph.specs.Steps.{unmarked_leaf}
+use borrow.Author.Rules.{rules}
+use Rattle.graph.proofs.leaves.claim.Goals as goal
+
+pub returns-then-used-i : goal.returns-then-used-i
+unfolding unmarked_leaf
+returns-then-used-i c = (simp (le-ltb _ _ c.if-used-i.true), refl)
+
+pub returns-then-is_leaf-marks : goal.returns-then-is_leaf-marks
+unfolding unmarked_leaf
+returns-then-is_leaf-marks c = (rw (lt-ltb _ _ c.if-used-i.false, ← c.is_leaf.ensures) (sym c.if-is_leaf-marks.true), refl)
+
+pub returns : goal.returns
+unfolding unmarked_leaf
+returns c = record { value = rw (lt-ltb _ _ c.if-used-i.false, ← c.is_leaf.ensures) (sym c.if-is_leaf-marks.false); marks_after = refl }

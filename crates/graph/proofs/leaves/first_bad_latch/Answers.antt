@@ -1,0 +1,53 @@
+-- `graph::leaves::first_bad_latch` meets its contract.
+use Prim.Native.Nat.{◌-◌, ◌≤◌}
+use native.Mathlib.Omega.{arith}
+use native.Mathlib.Nat.{sub-zero, le_antisymm}
+use mathlib.Core.Path.{◌≡◌, refl, sym, ap, ap₂, ◌∙◌}
+use mathlib.Core.Bool.{◌&&◌}
+use mathlib.Core.List.{◌++◌, append-nil}
+use borrow.Author.Tests.{not-true, not-false}
+use lib.ListN.{length, take, drop}
+use Rattle.edge.proofs.Tests.{both}
+use Rattle.graph.specs.Search.{first_bad}
+use Rattle.graph.specs.Latches.{latch_inputs}
+use Rattle.graph.specs.Leaves.{free_leaf, latch_edges, good_latch, Marks}
+use Rattle.graph.specs.declared.latch.Latch.{Latch}
+use Rattle.graph.proofs.Searching.{stops, goes_on, ended, at_nothing}
+use Rattle.graph.proofs.Marked.{inputs_more, claim_beyond, claim_free, claim_marks}
+use borrow.Author.Rules.{rules}
+use Rattle.graph.proofs.leaves.first_bad_latch.Goals as goal
+use Rattle.graph.proofs.leaves.first_bad_latch.Goals.{After-latch_edges}
+
+-- the test of a latch
+judged : (c : After-latch_edges) →
+    c.claim.result && c.latch_edges.result ≡ good_latch c.args.rows.now c.args.used (take c.args.n c.args.inputs.now)
+    c.args.latches.now c.loop-i.i
+judged c =
+    let a = c.args in
+    ap₂ ◌&&◌
+    (claim_free _ _ _ _ _ _ c.claim.ensures.value c.claim.ensures.marks_after _ c.loop-i.invariant.3 ∙ ap
+    (λ (l : Latch). free_leaf a.rows.now a.used (take a.n a.inputs.now ++ latch_inputs a.latches.now c.loop-i.i) l.input) c.latch_at-l.ensures)
+    (c.latch_edges.ensures ∙ ap (latch_edges a.used) c.latch_at-l.ensures)
+
+pub loop-i-init : goal.loop-i-init
+unfolding latch_inputs
+loop-i-init c = (search rules, refl, refl, rw append-nil c.requires.marks, rw sub-zero)
+
+pub returns-then-not-claim-latch_edges : goal.returns-then-not-claim-latch_edges
+returns-then-not-claim-latch_edges c =
+    let stopped = c.loop-i.invariant.4 ∙ stops _ _ _ c.loop-i-test.true (sym (judged (goal.at.returns-then-not-claim-latch_edges c).After-latch_edges) ∙ not-true _ c.if-not-claim-latch_edges.true-raw) in
+    (sym stopped, (claim_beyond _ _ _ _ _ _ c.claim.ensures.value c.claim.ensures.marks_after ∙ c.loop-i.invariant.2, λ e. absurd (at_nothing e)))
+
+pub loop-i-preserved : goal.loop-i-preserved
+loop-i-preserved c = (
+  search rules,
+  search rules,
+  claim_beyond _ _ _ _ _ _ c.claim.ensures.value c.claim.ensures.marks_after ∙ c.loop-i.invariant.2,
+  claim_marks _ _ _ _ _ _ c.claim.ensures.value c.claim.ensures.marks_after _ c.loop-i.invariant.3
+      (rw c.latch_at-l.ensures (inputs_more (take c.args.n c.args.inputs.now) c.args.latches.now c.loop-i.i)) (omega arith)
+      (both (not-false _ c.if-not-claim-latch_edges.false-raw)).0,
+  c.loop-i.invariant.4 ∙ goes_on _ _ _ c.loop-i-test.true (sym (judged (goal.at.loop-i-preserved c).After-latch_edges) ∙ not-false _ c.if-not-claim-latch_edges.false-raw),
+)
+
+pub returns : goal.returns
+returns c = record { value = sym (c.loop-i.invariant.4 ∙ ended _ _ _ c.loop-i-test.false); marks_unchanged = c.loop-i.invariant.2; marks_2 = λ _. rw (← (le_antisymm c.loop-i.invariant.0 c.loop-i-test.false)) c.loop-i.invariant.3 }

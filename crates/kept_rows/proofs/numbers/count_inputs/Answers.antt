@@ -1,0 +1,45 @@
+-- `kept_rows::numbers::count_inputs` meets its contract.
+use Prim.Native.Nat.{◌-◌, ◌≤◌}
+use native.Mathlib.Omega.{arith}
+use native.Mathlib.Nat.{le_antisymm}
+use mathlib.Core.Path.{◌≡◌, refl, sym, ◌∙◌}
+use mathlib.Core.Logic.{⊎_elim}
+use Rattle.graph.specs.Count.{count_below}
+use Rattle.kept_rows.specs.Keeping.{numbered, kept_input}
+use Rattle.graph.proofs.Counting.{count_taken, count_left, count_small}
+use borrow.Author.Rules.{rules}
+use Rattle.kept_rows.proofs.numbers.count_inputs.Goals as goal
+
+pub loop-j-init : goal.loop-j-init
+unfolding count_below
+loop-j-init c = (search rules, refl)
+
+-- ?? overflow-mul-is-numbered
+-- mul-is-numbered c = omega (arith, c.before.before.before.before.requires.has)
+
+pub bounds-inputs-j : goal.bounds-inputs-j
+bounds-inputs-j c = omega (arith, c.requires.has)
+
+-- ?? overflow-cast-is-numbered
+-- cast-is-numbered c = omega (arith, c.shared-slice-known3.given c.before.before.loop.j)
+
+pub is_numbered-requires : goal.is_numbered-requires
+is_numbered-requires c = omega (arith, c.requires.there c.loop-j.j c.loop-j-test.true)
+
+pub overflow_add-k : goal.overflow_add-k
+overflow_add-k c = omega (arith, count_small _ _ c.loop-j.invariant.1)
+
+pub loop-j-preserved : goal.loop-j-preserved
+loop-j-preserved c = (
+  search rules,
+  ⊎_elim
+      (λ w. count_taken
+      (kept_input (numbered c.args.map.now) c.args.inputs.now)
+      c.loop-j.j c.loop-j.invariant.1 (sym c.is_numbered.ensures ∙ w.0.taken) w.1)
+      (λ w. count_left
+      (kept_input (numbered c.args.map.now) c.args.inputs.now)
+      c.loop-j.j c.loop-j.invariant.1 (sym c.is_numbered.ensures ∙ w.0.left) w.1) c.if-is_numbered.branch,
+)
+
+pub returns : goal.returns
+returns c = rw (le_antisymm c.loop-j.invariant.0 c.loop-j-test.false) at c.loop-j.invariant.1

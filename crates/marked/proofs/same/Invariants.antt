@@ -1,0 +1,17 @@
+use Prim.Native.Nat.{ℕ, ◌-◌, ◌<◌, ◌≤◌}
+use native.Mathlib.Omega.{arith}
+use mathlib.Core.Path.{◌≡◌, refl, ap}
+use mathlib.Core.Bool.{true, false}
+use mathlib.Core.List.{List}
+use lib.ListN.{length, get_or}
+use lib.Seq.{ext_get_or}
+use borrow.Author.Count.{below_none, below_more}
+use borrow.Author.Rules.{rules}
+use Rattle.marked.proofs.Telling.{never, tells_same}
+use Rattle.marked.proofs.same.Given as goal
+
+abbrev pub invariant-loop-i : goal.invariant-loop-i
+invariant-loop-i l = (l.i ≤ length l.a) × ((k : ℕ) → k < l.i → Alike l.a l.b k)
+
+abbrev pub decreases-loop-i : goal.decreases-loop-i
+decreases-loop-i l = length l.a - l.i

@@ -1,0 +1,16 @@
+use Prim.Native.Nat.{◌-◌, ◌≤◌}
+use native.Mathlib.Omega.{arith}
+use native.Mathlib.Nat.{le_antisymm}
+use mathlib.Core.Path.{◌≡◌, refl}
+use lib.ListN.{length}
+use Rattle.output.specs.Writing.{written}
+use Rattle.merge.proofs.Ready.{filled_turn}
+use Rattle.merge.specs.Merge.{shifted}
+use borrow.Author.Rules.{rules}
+use Rattle.merge.proofs.fill.Given as goal
+
+abbrev pub invariant-loop-i : goal.invariant-loop-i
+invariant-loop-i l = (l.i ≤ l.n) × (length l.map ≡ length l.initial.map) × (l.map ≡ written l.initial.map 0 (shifted l.by) l.i)
+
+abbrev pub decreases-loop-i : goal.decreases-loop-i
+decreases-loop-i l = l.n - l.i

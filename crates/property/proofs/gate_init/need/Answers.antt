@@ -1,0 +1,8 @@
+-- `property::gate_init::need` meets its contract.
+use mathlib.Core.Path.{ap}
+use Rattle.property.specs.GateInit.{Gating}
+use borrow.Author.Rules.{rules}
+use Rattle.property.proofs.gate_init.need.Goals as goal
+
+pub returns : goal.returns
+returns c = (ap (λ (s : Gating). s.used) c.gate_steps.ensures, ap (λ (s : Gating). s.count) c.gate_steps.ensures)

@@ -1,0 +1,20 @@
+use Prim.Native.Nat.{◌+◌, ◌-◌, ◌≤◌}
+use native.Mathlib.Omega.{arith}
+use native.Mathlib.Nat.{le_antisymm}
+use mathlib.Core.Path.{◌≡◌, refl}
+use lib.ListN.{length, drop}
+use Rattle.renumber.specs.Renumber.{by}
+use Rattle.graph.specs.Count.{count_below, gates_below}
+use Rattle.reencode.specs.Numbers.{numbered}
+use Rattle.reencode.specs.Rebuilding.{gates_added}
+use Rattle.reencode.proofs.Numbering.{Halfway, half_start, next_number, half_turn, half_beyond, gates_turn, gate_ready}
+use borrow.Author.Rules.{rules}
+use Rattle.reencode.proofs.gate_rows.rebuild_gates.Given as goal
+
+abbrev pub invariant-loop-i : goal.invariant-loop-i
+invariant-loop-i l =
+    (l.i ≤ l.used) × (length l.out ≡ length l.initial.out) × (length l.marks ≡ length l.initial.marks) × (l.k ≡ l.first + gates_below l.rows l.i) × (l.out ≡ gates_added (numbered l.rows l.first (by l.initial.marks)) l.rows l.first l.initial.out l.i) ×
+    Halfway (numbered l.rows l.first (by l.initial.marks)) l.initial.marks l.i l.marks × (drop l.used l.marks ≡ drop l.used l.initial.marks)
+
+abbrev pub decreases-loop-i : goal.decreases-loop-i
+decreases-loop-i l = l.used - l.i

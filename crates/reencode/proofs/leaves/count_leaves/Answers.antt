@@ -1,0 +1,33 @@
+-- `reencode::leaves::count_leaves` meets its contract.
+use Prim.Native.Nat.{◌-◌, ◌≤◌}
+use native.Mathlib.Omega.{arith}
+use native.Mathlib.Nat.{le_antisymm}
+use mathlib.Core.Path.{◌≡◌, refl}
+use mathlib.Core.Logic.{⊎_elim}
+use Rattle.rows.specs.Rows.{leaf_at}
+use Rattle.graph.specs.Count.{count_below}
+use Rattle.reencode.proofs.Leaving.{none_leaf, else_no_leaf}
+use Rattle.graph.proofs.Counting.{count_within, count_taken, count_left}
+use borrow.Author.Rules.{rules}
+use Rattle.reencode.proofs.leaves.count_leaves.Goals as goal
+
+pub loop-i-init : goal.loop-i-init
+unfolding count_below
+loop-i-init c = (search rules, refl)
+
+pub overflow_add-n : goal.overflow_add-n
+overflow_add-n c = omega (arith, c.loop-i.invariant.1, count_within (leaf_at c.args.rows.now) c.loop-i.i)
+
+pub loop-i-preserved : goal.loop-i-preserved
+loop-i-preserved c =
+    let a = c.args in
+    let p = c.requires in
+    let l = c.loop-i in
+    let leaf = leaf_at a.rows.now in (
+      search rules,
+      ⊎_elim (λ w. count_taken leaf l.i l.invariant.1 (none_leaf a.rows.now a.used l.i p.1.0 p.1.1 c.loop-i-test.true w.0.taken) w.1)
+          (λ w. count_left leaf l.i l.invariant.1 (else_no_leaf a.rows.now l.i w.0.left) w.1) c.if-rows-i.branch,
+    )
+
+pub returns : goal.returns
+returns c = rw (le_antisymm c.loop-i.invariant.0 c.loop-i-test.false) at c.loop-i.invariant.1

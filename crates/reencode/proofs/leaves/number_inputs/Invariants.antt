@@ -1,0 +1,15 @@
+use Prim.Native.Nat.{ℕ, ◌-◌, ◌≤◌}
+use native.Mathlib.Omega.{arith}
+use native.Mathlib.Nat.{le_antisymm}
+use mathlib.Core.Path.{◌≡◌, refl}
+use lib.ListN.{length, get_or}
+use Rattle.reencode.specs.Steps.{placed}
+use Rattle.reencode.proofs.Placing.{placed_turn}
+use borrow.Author.Rules.{rules}
+use Rattle.reencode.proofs.leaves.number_inputs.Given as goal
+
+abbrev pub invariant-loop-j : goal.invariant-loop-j
+invariant-loop-j l = (l.j ≤ l.n) × (length l.marks ≡ length l.initial.marks) × (l.marks ≡ placed l.initial.marks (λ (i : ℕ). get_or l.inputs i 0) 1 l.j)
+
+abbrev pub decreases-loop-j : goal.decreases-loop-j
+decreases-loop-j l = l.n - l.j

@@ -1,0 +1,14 @@
+use Prim.Native.Nat.{◌-◌, ◌≤◌}
+use native.Mathlib.Nat.{le_antisymm}
+use mathlib.Core.Path.{◌≡◌, refl}
+use lib.ListN.{length}
+use Rattle.reencode.specs.Rebuilding.{leaves_added}
+use Rattle.reencode.proofs.Turning.{leaves_turn}
+use borrow.Author.Rules.{rules}
+use Rattle.reencode.proofs.leaves.write_leaves.Given as goal
+
+abbrev pub invariant-loop-i : goal.invariant-loop-i
+invariant-loop-i l = (l.i ≤ l.n) × (length l.out ≡ length l.initial.out) × ((start : _) → l.initial.out ≡ leaves_added start 0 → l.out ≡ leaves_added start l.i)
+
+abbrev pub decreases-loop-i : goal.decreases-loop-i
+decreases-loop-i l = l.n - l.i

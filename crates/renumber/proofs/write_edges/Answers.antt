@@ -1,0 +1,45 @@
+-- `renumber::write_edges` meets its contract.
+use Prim.Native.Nat.{◌-◌, ◌≤◌}
+use native.Mathlib.Omega.{arith}
+use native.Mathlib.Nat.{le_antisymm}
+use mathlib.Core.Path.{◌≡◌, refl}
+use lib.ListN.{length}
+use Rattle.output.specs.Writing.{written}
+use Rattle.renumber.specs.Renumber.{edges_of, by}
+use Rattle.output.proofs.Writing.{written_turn}
+use borrow.Author.Rules.{rules}
+use Rattle.renumber.proofs.write_edges.Goals as goal
+
+pub loop-j-init : goal.loop-j-init
+unfolding written
+loop-j-init c = (search rules, refl, refl)
+
+-- ?? overflow-mul-renamed
+-- mul-renamed c = omega (arith, c.before.before.before.before.before.requires.has)
+
+pub bounds-list-j : goal.bounds-list-j
+bounds-list-j c = omega (arith, c.requires.has)
+
+pub renamed-requires : goal.renamed-requires
+renamed-requires c = c.requires.mapped c.loop-j.j c.loop-j-test.true
+
+pub overflow_add-out : goal.overflow_add-out
+overflow_add-out c = omega (arith, c.requires.room)
+
+-- ?? overflow-mul-out
+-- mul-out c = omega (arith, c.before.before.before.before.before.before.before.requires.room)
+
+pub bounds-out-at : goal.bounds-out-at
+bounds-out-at c = omega (arith, c.requires.room)
+
+pub loop-j-preserved : goal.loop-j-preserved
+loop-j-preserved c = (
+  search rules,
+  search rules,
+  written_turn c.args.out.now c.args.at
+      (edges_of (by c.args.map.now) c.args.list.now)
+      c.loop-j.j c.loop-j.invariant.2 c.renamed.ensures,
+)
+
+pub returns : goal.returns
+returns c = rw (le_antisymm c.loop-j.invariant.0 c.loop-j-test.false) at c.loop-j.invariant.2

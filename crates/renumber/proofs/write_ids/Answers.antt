@@ -1,0 +1,51 @@
+-- `renumber::write_ids` meets its contract.
+use Prim.Native.Nat.{◌-◌, ◌≤◌}
+use native.Mathlib.Omega.{arith}
+use native.Mathlib.Nat.{le_antisymm}
+use mathlib.Core.Path.{◌≡◌, refl}
+use lib.ListN.{length}
+use Rattle.output.specs.Writing.{written}
+use Rattle.renumber.specs.Renumber.{ids_of, by}
+use Rattle.output.proofs.Writing.{written_turn}
+use borrow.Author.Rules.{rules}
+use Rattle.renumber.proofs.write_ids.Goals as goal
+
+pub loop-j-init : goal.loop-j-init
+unfolding written
+loop-j-init c = (search rules, refl, refl)
+
+-- ?? overflow-mul-out
+-- mul-out c = omega (arith, c.before.before.requires.has)
+
+pub bounds-list-j : goal.bounds-list-j
+bounds-list-j c = omega (arith, c.requires.has)
+
+pub overflow_cast-out : goal.overflow_cast-out
+overflow_cast-out c = omega (arith, c.type_inv.list c.loop-j.j)
+
+-- ?? overflow-mul-out-2
+-- mul-out-2 c = omega (arith, c.shared-slice-known.given c.before.before.loop.j)
+
+pub bounds-map-list : goal.bounds-map-list
+bounds-map-list c = (c.requires.known c.loop-j.j c.loop-j-test.true).has
+
+pub overflow_add-out : goal.overflow_add-out
+overflow_add-out c = omega (arith, c.requires.room)
+
+-- ?? overflow-mul-out-3
+-- mul-out-3 c = omega (arith, c.before.before.before.before.requires.room)
+
+pub bounds-out-at : goal.bounds-out-at
+bounds-out-at c = omega (arith, c.requires.room)
+
+pub loop-j-preserved : goal.loop-j-preserved
+loop-j-preserved c = (
+  search rules,
+  search rules,
+  written_turn c.args.out.now c.args.at
+      (ids_of (by c.args.map.now) c.args.list.now) c.loop-j.j
+      c.loop-j.invariant.2 refl,
+)
+
+pub returns : goal.returns
+returns c = rw (le_antisymm c.loop-j.invariant.0 c.loop-j-test.false) at c.loop-j.invariant.2

@@ -1,0 +1,16 @@
+use Prim.Native.Nat.{◌-◌, ◌≤◌}
+use native.Mathlib.Omega.{arith}
+use native.Mathlib.Nat.{le_antisymm}
+use mathlib.Core.Path.{◌≡◌, refl}
+use lib.ListN.{length}
+use Rattle.output.specs.Writing.{written}
+use Rattle.renumber.specs.Renumber.{ids_of, by}
+use Rattle.output.proofs.Writing.{written_turn}
+use borrow.Author.Rules.{rules}
+use Rattle.renumber.proofs.write_ids.Given as goal
+
+abbrev pub invariant-loop-j : goal.invariant-loop-j
+invariant-loop-j l = (l.j ≤ l.n) × (length l.out ≡ length l.initial.out) × (l.out ≡ written l.initial.out l.at (ids_of (by l.map) l.list) l.j)
+
+abbrev pub decreases-loop-j : goal.decreases-loop-j
+decreases-loop-j l = l.n - l.j

@@ -1,0 +1,15 @@
+use Rattle.root_marks.proofs.Roots.{latches_end, latch_good, latches_turn}
+use Prim.Native.Nat.{◌-◌, ◌≤◌}
+use mathlib.Core.Path.{◌≡◌, refl, sym, ◌∙◌}
+use lib.ListN.{length}
+use Rattle.graph.specs.Leaves.{used_edge}
+use Rattle.root_marks.specs.Marking.{mark_edges}
+use Rattle.root_marks.specs.Roots.{latch_roots}
+use borrow.Author.Rules.{rules}
+use Rattle.root_marks.proofs.mark_latches.Given as goal
+
+abbrev pub invariant-loop-i : goal.invariant-loop-i
+invariant-loop-i l = (l.i ≤ l.n) × (length l.marks ≡ length l.initial.marks) × (l.marks ≡ mark_edges (latch_roots l.latches l.i) l.initial.marks)
+
+abbrev pub decreases-loop-i : goal.decreases-loop-i
+decreases-loop-i l = l.n - l.i

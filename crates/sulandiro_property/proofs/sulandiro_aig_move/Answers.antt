@@ -1,0 +1,17 @@
+-- `sulandiro_property::sulandiro_aig_move` meets its contract.
+use Rattle.graph.specs.Graph.{lent}
+use Rattle.aig_move.specs.Call.{move_call}
+use Rattle.sulandiro_words.specs.Words.{counts_in}
+use Rattle.sulandiro_words.proofs.Telling.{tells}
+use borrow.Author.Rules.{rules}
+use Rattle.sulandiro_property.proofs.sulandiro_aig_move.Goals as goal
+
+pub returns : goal.returns
+returns c =
+    tells c.args.told.now c.aig_move-r.result (lent _ _ _ _ _ _ _ _ _ c.aig_move-r.result.counts) _ c.tell_rebuilt.ensures
+    (move_call
+    (lent c.args.rows.now c.args.inputs.now c.args.latches.now c.args.constraints.now c.args.bads.now c.args.outputs.now
+    c.args.ends.now c.args.edges.now c.args.fairness.now (counts_in c.args.counts.now))
+    (lent c.args.rows2.now c.args.inputs2.now c.args.latches2.now c.args.constraints2.now c.args.bads2.now c.args.outputs2.now
+    c.args.ends2.now c.args.edges2.now c.args.fairness2.now (counts_in c.args.counts.now)) c.args.marks.now)
+    (rw (← c.counts_in-n.ensures) c.aig_move-r.ensures)

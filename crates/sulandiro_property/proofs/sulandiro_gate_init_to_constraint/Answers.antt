@@ -1,0 +1,31 @@
+-- `sulandiro_property::sulandiro_gate_init_to_constraint` meets its contract.
+use Rattle.graph.specs.Graph.{lent}
+use Rattle.property.specs.GateInit.{gate_init_call}
+use Rattle.sulandiro_words.specs.Words.{counts_in}
+use Rattle.sulandiro_words.proofs.Telling.{tells}
+use borrow.Author.Rules.{rules}
+use Rattle.sulandiro_property.proofs.sulandiro_gate_init_to_constraint.Goals as goal
+
+pub shape_of-rows : goal.shape_of-rows
+shape_of-rows c = c.gate_init_to_constraint-r.kept.0
+
+pub shape_of-latches : goal.shape_of-latches
+shape_of-latches c = c.gate_init_to_constraint-r.kept.1.1.0
+
+pub shape_of-constraints : goal.shape_of-constraints
+shape_of-constraints c = c.gate_init_to_constraint-r.kept.1.1.1.0
+
+pub shape_of-marks : goal.shape_of-marks
+shape_of-marks c = c.gate_init_to_constraint-r.kept.1.1.1.1.1.1.1.1.1.1.0
+
+pub shape_of-told : goal.shape_of-told
+shape_of-told c = c.tell_rebuilt.kept.0
+
+pub returns : goal.returns
+returns c =
+    tells c.args.told.now c.gate_init_to_constraint-r.result
+    (lent _ _ _ _ _ _ _ _ _ c.gate_init_to_constraint-r.result.counts) _ c.tell_rebuilt.ensures
+    (gate_init_call
+    (lent c.args.rows.now c.args.inputs.now c.args.latches.now c.args.constraints.now c.args.bads.now c.args.outputs.now
+    c.args.ends.now c.args.edges.now c.args.fairness.now (counts_in c.args.counts.now)) c.args.marks.now)
+    (rw (← c.counts_in-n.ensures) c.gate_init_to_constraint-r.ensures)

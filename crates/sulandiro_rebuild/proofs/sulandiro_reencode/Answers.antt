@@ -1,0 +1,17 @@
+-- `sulandiro_rebuild::sulandiro_reencode` meets its contract.
+use Rattle.graph.specs.Graph.{lent}
+use Rattle.sulandiro_words.specs.Words.{counts_in}
+use Rattle.reencode.specs.Call.{reencode_call}
+use Rattle.sulandiro_words.proofs.Telling.{tells}
+use borrow.Author.Rules.{rules}
+use Rattle.sulandiro_rebuild.proofs.sulandiro_reencode.Goals as goal
+
+pub returns : goal.returns
+returns c =
+    let a = c.args in
+    tells a.told.now c.reencode-r.result (lent _ _ _ _ _ _ _ _ _ c.reencode-r.result.counts) _ c.tell_rebuilt.ensures
+    (reencode_call
+    (lent a.rows.now a.inputs.now a.latches.now a.constraints.now a.bads.now a.outputs.now a.ends.now a.edges.now a.fairness.now
+    (counts_in a.counts.now))
+    (lent a.rows2.now a.inputs2.now a.latches2.now a.constraints2.now a.bads2.now a.outputs2.now a.ends2.now a.edges2.now a.fairness2.now
+    (counts_in a.counts.now)) a.marks.now) (rw (← c.counts_in-n.ensures) c.reencode-r.ensures)

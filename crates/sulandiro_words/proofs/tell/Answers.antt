@@ -1,0 +1,9 @@
+-- `sulandiro_words::tell` meets its contract.
+use Rattle.sulandiro_words.specs.Words.{given_words}
+use mathlib.Core.Path.{◌∙◌}
+use borrow.Author.Rules.{rules}
+use Rattle.sulandiro_words.proofs.tell.Goals as goal
+
+pub returns : goal.returns
+unfolding given_words
+returns c = rw (c.put-4.ensures, c.put-3.ensures, c.put-2.ensures, c.put.ensures, c.told-given.ensures)

@@ -1,0 +1,7 @@
+-- `sulandiro_words::tell_word` meets its contract.
+use mathlib.Core.Path.{◌∙◌}
+use borrow.Author.Rules.{rules}
+use Rattle.sulandiro_words.proofs.tell_word.Goals as goal
+
+pub returns : goal.returns
+returns c = rw (c.put.ensures, c.tell.ensures)

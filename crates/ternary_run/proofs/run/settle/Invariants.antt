@@ -1,0 +1,16 @@
+use Prim.Native.Nat.{◌-◌, ◌≤◌}
+use native.Mathlib.Omega.{arith}
+use native.Mathlib.Nat.{le_antisymm}
+use mathlib.Core.Path.{◌≡◌, refl}
+use mathlib.Core.List.{◌++◌}
+use lib.ListN.{length, drop}
+use Rattle.ternary_run.specs.Run.{rows3}
+use Rattle.ternary_run.proofs.Running.{turn_codes, turn}
+use borrow.Author.Rules.{rules}
+use Rattle.ternary_run.proofs.run.settle.Given as goal
+
+abbrev pub invariant-loop-i : goal.invariant-loop-i
+invariant-loop-i l = (l.i ≤ l.used) × (length l.values ≡ length l.initial.values) × (l.values ≡ rows3 l.rows l.initial.values l.i ++ drop l.i l.initial.values)
+
+abbrev pub decreases-loop-i : goal.decreases-loop-i
+decreases-loop-i l = l.used - l.i
