@@ -3,7 +3,7 @@
 use Prim.Native.Nat.{ℕ, zero, suc, ◌*◌, ◌≤◌, ◌<◌}
 use native.Mathlib.Omega.{arith}
 use native.Mathlib.Nat.{eq-or-lt_of_le}
-use mathlib.Core.Bool.{Bool, true, false, not, ◌&&◌, ◌||◌, and_assoc, or_false}
+use mathlib.Core.Bool.{Bool, true, false, not, ◌&&◌, ◌||◌, and_assoc, or-false}
 use mathlib.Core.Path.{◌≡◌, refl, sym, ◌∙◌}
 use mathlib.Core.Logic.{◌⊎◌, inl, inr, ⊎_elim}
 use mathlib.Core.List.{List, [], ◌∷◌, ◌++◌}
@@ -144,7 +144,7 @@ module _ (shortcuts : Bool) (rows : List ℕ) (used : ℕ) (good : AllRows rows 
 -- the unit clause says that row 0 is false
 unit_says : (v : ℕ → Bool) → holds v unit ≡ not (v 0)
 unfolding holds edge_value
-unit_says v = or_false (not (v 0))
+unit_says v = or-false (not (v 0))
 
 module _ (shortcuts : Bool) (g : Lent) (marks : ℕ) (s : Sized g marks) (w : WellFormed g) where
   abbrev start : List ℕ

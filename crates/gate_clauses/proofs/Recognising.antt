@@ -1,7 +1,7 @@
 -- Laws of the recognisers: what each test of the code comes to in the definitions.
 -- Assumes nothing.
 use Prim.Native.Nat.{ℕ}
-use mathlib.Core.Bool.{Bool, true, false, not, ◌&&◌, ◌||◌, and_false}
+use mathlib.Core.Bool.{Bool, true, false, not, ◌&&◌, ◌||◌, and-false}
 use mathlib.Core.Path.{◌≡◌, ◌∙◌}
 use mathlib.Core.List.{List}
 use lib.Dec.{eqb}
@@ -72,7 +72,7 @@ module _ (shortcuts : Bool) (rows : List ℕ) (f g : ℕ) where
   module _ {s t u v : Bool} (ps : s ≡ is_complemented f) (pt : t ≡ gate_at rows (id_of f)) (pu : u ≡ is_complemented g) (pv : v ≡ gate_at rows (id_of g)) where
     pub shape_plain : not ((s && t) && (u && v)) ≡ true → Plain f g ≡ shape_of shortcuts rows f g
     unfolding shape_of
-    shape_plain h = rw (← ps, ← pt, ← pu, ← pv, not-true ((s && t) && (u && v)) h, and_false)
+    shape_plain h = rw (← ps, ← pt, ← pu, ← pv, not-true ((s && t) && (u && v)) h, and-false)
 
     pub shape_inner : not shortcuts ≡ false → not ((s && t) && (u && v)) ≡ false → {r : Shape}
         → r ≡ recognised (Plain f g) (word0 rows (id_of f)) (word1 rows (id_of f)) (word0 rows (id_of g)) (word1 rows (id_of g)) → r ≡ shape_of shortcuts rows f g

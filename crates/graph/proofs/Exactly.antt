@@ -163,3 +163,4 @@ names_one p q (later clean names) (later also others) = names_one p q names othe
 pub no_fault : {ss : List Stage} {p : Given} → AllClean ss → Names ss p → ⊥
 no_fault (more c all) (here i l b before) = false_true (sym b ∙ c i l)
 no_fault (more c all) (later clean names) = no_fault all names
+no_fault {p = p} Rattle.graph.specs.Stages.nothing x3 = elim x3 [ ]

@@ -4,7 +4,7 @@ use Prim.Native.Nat.{ℕ, ◌+◌, ◌≤◌, ◌<◌}
 use native.Mathlib.Omega.{arith}
 use native.Mathlib.Numerals.{add-one}
 use mathlib.Core.Path.{◌≡◌, refl, sym, ap, ◌∙◌}
-use mathlib.Core.Bool.{Bool, true, false, cond, not, ◌&&◌, ◌||◌, or_false, or-true, or_assoc}
+use mathlib.Core.Bool.{Bool, true, false, cond, not, ◌&&◌, ◌||◌, or-false, or-true, or_assoc}
 use mathlib.Core.List.{List, [], ◌∷◌, ◌++◌, append_assoc}
 use lib.ListN.{length, get_or, set, take, drop, replicate, length-replicate, get_or-append, get_or-replicate}
 use lib.Seq.{drop_at, take-suc, drop-set-lt, get_or-set_same, get_or-set_other}
@@ -19,7 +19,7 @@ use Rattle.graph.specs.Check.{cleared}
 
 member_snoc : (x y : ℕ) (l : List ℕ) → member x (l ++ (y ∷ [])) ≡ member x l || eqb x y
 unfolding member
-member_snoc x y [] = or_false (eqb x y)
+member_snoc x y [] = or-false (eqb x y)
 member_snoc x y (z ∷ l) = rw (member_snoc x y l, or_assoc (eqb x z) (member x l) (eqb x y))
 
 pub take_more : (l : List ℕ) (i : ℕ) → i < length l → take (i + 1) l ≡ take i l ++ (get_or l i 0 ∷ [])
@@ -63,7 +63,7 @@ module _ (rows : List ℕ) (used x : ℕ) (old new : List ℕ) (r : Bool) (e : r
       where
         go : (b : Bool) → eqb y x ≡ b → eqb (get_or (set old x 1) y 0) 0 ≡ not (member y listed || b)
         go true h = let q = eqb-true y x h in rw (q, get_or-set_same old x 1 0 (omega (arith, taken t)), or-true)
-        go false h = rw (get_or-set_other old x y 1 0 (eqb-false y x h), or_false, marks y l)
+        go false h = rw (get_or-set_other old x y 1 0 (eqb-false y x h), or-false, marks y l)
 
 -- clearing again, after only cleared marks were changed
 pub cleared_again : (used : ℕ) (old new : List ℕ) → drop used new ≡ drop used (cleared used old) → cleared used new ≡ cleared used old

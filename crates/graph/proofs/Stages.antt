@@ -80,3 +80,4 @@ clean_done (more {s} {ss} c all) = rw (nothing_bad s.good s.count 0 (λ j l h. c
 pub named_entry : {ss : List Stage} {g : Given} → Entries ss → Names ss g → g.number ≡ 3
 named_entry (also r rs) (here i l b before) = r i
 named_entry (also r rs) (later c n) = named_entry rs n
+named_entry {g = g} ends x3 = elim x3 [ ]

@@ -4,7 +4,7 @@ use Prim.Native.Nat.{ℕ, zero, suc, ◌+◌, ◌*◌, ◌≤◌, ◌<◌}
 use native.Mathlib.Omega.{arith}
 use native.Mathlib.Nat.{eq-or-lt_of_le}
 use mathlib.Core.Path.{◌≡◌, refl, sym, ap, ◌∙◌}
-use mathlib.Core.Bool.{Bool, true, false, cond, not, ◌||◌, or_false}
+use mathlib.Core.Bool.{Bool, true, false, cond, not, ◌||◌, or-false}
 use mathlib.Core.Logic.{⊎_elim}
 use mathlib.Core.List.{List, [], ◌∷◌}
 use lib.ListN.{length, get_or, set, length-set}
@@ -83,7 +83,7 @@ module _ (rows : List ℕ) (used new : ℕ) (l : Latch) (some : 0 < used) (row :
         complementing.negates (value same.rows leaf) (2 * new),
         grows_edge rows used same same_grows leaf (2 * new) new_used,
         even_value (value rows leaf) new,
-        or_false (edge_value (value same.rows leaf) same.edge),
+        or-false (edge_value (value same.rows leaf) same.edge),
         eq_value rows used (2 * l.input) l.init some input_used within.init same_room leaf,
         even_value (value rows leaf) l.input,
       )

@@ -33,5 +33,5 @@ returns c =
     let out = lent c.args.rows2.now c.args.inputs2.now c.args.latches2.now c.args.constraints2.now c.args.bads2.now c.args.outputs2.now c.args.ends2.now c.args.edges2.now c.args.fairness2.now c.args.counts in
     all_moved (graph) (out) (ok (goal.at.returns c).Start) c.copy_counts.ensures c.copy_graph.ensures
     c.copy_graph.auto.latches2 c.copy_graph.auto.bads2
-    c.copy_graph.auto.outputs2 c.finish.ensures.rows2_after c.finish.ensures.latches2_after.0 c.finish.ensures.latches2_after.1.0
-    c.finish.ensures.latches2_after.1.1
+    c.copy_graph.auto.outputs2 c.finish.ensures.rows2_after c.finish.ensures.latches2_after c.finish.ensures.bads2_after
+    c.finish.ensures.outputs2_after

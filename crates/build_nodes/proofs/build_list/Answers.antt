@@ -17,8 +17,7 @@ returns-then-not-is_done c =
 pub add_list-dry-requires : goal.add_list-dry-requires
 add_list-dry-requires c =
     let a = c.args in
-    let f = asked_fits a.rows.now a.counts a.edges.now c.asked-answer.ensures c.is_done.ensures c.if-not-is_done.false-raw in
-    (omega (arith, f.0), f.1)
+    let f = asked_fits a.rows.now a.counts a.edges.now c.asked-answer.ensures c.is_done.ensures c.if-not-is_done.false-raw in record { used_bound = omega (arith, f.0); edges_len_bound = f.1 }
 
 pub returns-then-rows-dry : goal.returns-then-rows-dry
 unfolding list_call
@@ -30,8 +29,7 @@ returns-then-rows-dry c =
 pub add_list-grown-requires : goal.add_list-grown-requires
 add_list-grown-requires c =
     let a = c.args in
-    let f = asked_fits a.rows.now a.counts a.edges.now c.asked-answer.ensures c.is_done.ensures c.if-not-is_done.false-raw in
-    (omega (arith, f.0), f.1)
+    let f = asked_fits a.rows.now a.counts a.edges.now c.asked-answer.ensures c.is_done.ensures c.if-not-is_done.false-raw in record { used_bound = omega (arith, f.0); edges_len_bound = f.1 }
 
 pub returns : goal.returns
 unfolding list_call

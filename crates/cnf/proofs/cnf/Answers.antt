@@ -27,10 +27,7 @@ slice_bounds-has_room-end-2 c =
 pub has_room-fits-requires : goal.has_room-fits-requires
 has_room-fits-requires c =
     let graph = lent c.args.rows.now c.args.inputs.now c.args.latches.now c.args.constraints.now c.args.bads.now c.args.outputs.now c.args.ends.now c.args.edges.now c.args.fairness.now c.args.counts in
-    let a = c.args in (
-      roots_fit (graph) a.shortcuts a.clauses.now a.marks.now c.check-answer.result c.check-answer.ensures c.is_done.ensures c.if-not-is_done.false-raw,
-      ready (graph) a.shortcuts a.clauses.now a.marks.now c.check-answer.result c.check-answer.ensures c.is_done.ensures c.if-not-is_done.false-raw,
-    )
+    let a = c.args in record { roots_fit = roots_fit (graph) a.shortcuts a.clauses.now a.marks.now c.check-answer.result c.check-answer.ensures c.is_done.ensures c.if-not-is_done.false-raw; clauses_ready = ready (graph) a.shortcuts a.clauses.now a.marks.now c.check-answer.result c.check-answer.ensures c.is_done.ensures c.if-not-is_done.false-raw }
 
 pub returns-then-not-fits : goal.returns-then-not-fits
 returns-then-not-fits c =
@@ -57,16 +54,16 @@ slice_bounds-put_words-end-2 c =
 pub put_words-written-requires : goal.put_words-written-requires
 put_words-written-requires c =
     let graph = lent c.args.rows.now c.args.inputs.now c.args.latches.now c.args.constraints.now c.args.bads.now c.args.outputs.now c.args.ends.now c.args.edges.now c.args.fairness.now c.args.counts in
-    let a = c.args in (
-      roots_fit (graph) a.shortcuts a.clauses.now a.marks.now c.check-answer.result c.check-answer.ensures c.is_done.ensures c.if-not-is_done.false-raw,
-      again_ready (graph) a.shortcuts a.clauses.now a.marks.now c.check-answer.result c.check-answer.ensures c.is_done.ensures c.if-not-is_done.false-raw
-          c.has_room-fits.ensures.kept,
-    )
+    let a = c.args in record {
+      roots_fit = roots_fit (graph) a.shortcuts a.clauses.now a.marks.now c.check-answer.result c.check-answer.ensures c.is_done.ensures c.if-not-is_done.false-raw;
+      clauses_ready = again_ready (graph) a.shortcuts a.clauses.now a.marks.now c.check-answer.result c.check-answer.ensures c.is_done.ensures c.if-not-is_done.false-raw
+          c.has_room-fits.ensures.kept;
+    }
 
 pub returns : goal.returns
 returns c =
     let graph = lent c.args.rows.now c.args.inputs.now c.args.latches.now c.args.constraints.now c.args.bads.now c.args.outputs.now c.args.ends.now c.args.edges.now c.args.fairness.now c.args.counts in
     let a = c.args in
     cnf_done (graph) a.shortcuts a.clauses.now a.marks.now c.check-answer.result c.check-answer.ensures c.is_done.ensures c.if-not-is_done.false-raw
-    c.has_room-fits.ensures.kept c.has_room-fits.ensures.fits c.if-not-fits.false-raw c.put_words-written.ensures.number c.put_words-written.ensures.written.1
-    c.put_words-written.ensures.written.0
+    c.has_room-fits.ensures.kept c.has_room-fits.ensures.fits c.if-not-fits.false-raw c.put_words-written.ensures.number c.put_words-written.ensures.kept
+    c.put_words-written.ensures.written

@@ -21,8 +21,7 @@ overflow_add-most c = omega (arith, c.requires.clauses_ready.rows_few)
 pub returns-then-most-room : goal.returns-then-most-room
 returns-then-most-room c =
     let roots = roots_in c.args.latches.now c.args.constraints.now c.args.bads.now c.args.outputs.now c.args.edges.now c.args.fairness.now c.args.counts in
-    let a = c.args in
-    (room_for_most a.shortcuts a.rows.now (roots) a.marks.now a.room c.requires.clauses_ready c.if-most-room.true, refl)
+    let a = c.args in record { fits = room_for_most a.shortcuts a.rows.now (roots) a.marks.now a.room c.requires.clauses_ready c.if-most-room.true; kept = refl }
 
 pub gates_below-requires : goal.gates_below-requires
 gates_below-requires c = c.requires.clauses_ready.rows_there
@@ -36,11 +35,10 @@ gates_below-requires c = c.requires.clauses_ready.rows_there
 pub returns-then-gates_below-room : goal.returns-then-gates_below-room
 returns-then-gates_below-room c =
     let roots = roots_in c.args.latches.now c.args.constraints.now c.args.bads.now c.args.outputs.now c.args.edges.now c.args.fairness.now c.args.counts in
-    let a = c.args in
-    (room_for_gates a.shortcuts a.rows.now (roots) a.marks.now a.room c.gates_below.ensures c.if-gates_below-room.true, refl)
+    let a = c.args in record { fits = room_for_gates a.shortcuts a.rows.now (roots) a.marks.now a.room c.gates_below.ensures c.if-gates_below-room.true; kept = refl }
 
 pub put_words-need-requires : goal.put_words-need-requires
-put_words-need-requires c = c.requires
+put_words-need-requires c = record { roots_fit = c.requires.roots_fit; clauses_ready = c.requires.clauses_ready }
 
 pub returns : goal.returns
-returns c = record { fits = ap (λ (n : ℕ). leb n c.args.room) c.put_words-need.ensures.number; kept = c.put_words-need.ensures.written.1 }
+returns c = record { fits = ap (λ (n : ℕ). leb n c.args.room) c.put_words-need.ensures.number; kept = c.put_words-need.ensures.kept }

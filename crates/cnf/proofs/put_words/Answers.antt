@@ -15,8 +15,7 @@ pub put_rows-end-requires : goal.put_rows-end-requires
 put_rows-end-requires c =
     let roots = roots_in c.args.latches.now c.args.constraints.now c.args.bads.now c.args.outputs.now c.args.edges.now c.args.fairness.now c.args.counts in
     let a = c.args in
-    let long = marked_long a.shortcuts a.rows.now (roots) a.marks.now c.requires.clauses_ready c.mark_roots.ensures in
-    (omega (arith, long, c.requires.clauses_ready.rows_there), omega (arith, long, c.requires.clauses_ready.rows_few))
+    let long = marked_long a.shortcuts a.rows.now (roots) a.marks.now c.requires.clauses_ready c.mark_roots.ensures in record { marks_in_bounds = omega (arith, long, c.requires.clauses_ready.rows_there); marks_len_bound = omega (arith, long, c.requires.clauses_ready.rows_few) }
 
 pub returns : goal.returns
 returns c =

@@ -59,4 +59,4 @@ returns c =
     let graph = lent c.args.rows.now c.args.inputs.now c.args.latches.now c.args.constraints.now c.args.bads.now c.args.outputs.now c.args.ends.now c.args.edges.now c.args.fairness.now c.args.counts in
     coi_done (graph) c.args.ids.now c.args.flags.now c.args.marks.now c.args.stack.now c.checked-answer.result
     c.checked-answer.ensures c.is_bad_sizes.ensures c.if-is_bad_sizes.false c.clear.ensures c.is_done.ensures c.if-not-is_done.false-raw
-    c.write.ensures.flags_after c.write.ensures.marks_after.0 c.write.ensures.marks_after.1
+    c.write.ensures.flags_after c.write.ensures.marks_after c.write.ensures.stack_after

@@ -11,15 +11,10 @@ use Rattle.frame.proofs.fits.Goals as goal
 pub returns-then-fits : goal.returns-then-fits
 returns-then-fits c =
     let a = c.args in
-    let p = c.requires in (
-      most_fits a.counts a.latches.now a.rows2.now a.counts2 p.1.1.0.0 p.1.1.1.1 a.room c.most-most.ensures.value (sym c.fits.ensures ∙ c.if-fits.true),
-      c.most-most.ensures.marks_after,
-    )
+    let p = (c.requires.addable, c.requires.addable_2, c.requires.rows_nonzero, c.requires.latches_within, c.requires.bounded) in record { value = most_fits a.counts a.latches.now a.rows2.now a.counts2 p.1.1.0.0 p.1.1.1.1 a.room c.most-most.ensures.value (sym c.fits.ensures ∙ c.if-fits.true); marks_after = c.most-most.ensures.marks_after }
 
 pub needed-need-requires : goal.needed-need-requires
-needed-need-requires c =
-    let p = c.requires in
-    (p.1.1.1.1.rows, (p.0, (p.1.0, ((p.1.1.0.0, p.1.1.0.1, omega (arith, c.most-most.auto.marks, p.1.1.0.2)), p.1.1.1.0))))
+needed-need-requires c = let p = (c.requires.addable, c.requires.addable_2, c.requires.rows_nonzero, c.requires.latches_within, c.requires.bounded) in record { all_rows = p.1.1.1.1.rows; addable = p.0; addable_2 = p.1.0; rows_nonzero = (p.1.1.0.0, p.1.1.0.1, omega (arith, c.most-most.auto.marks, p.1.1.0.2)); latches_within = p.1.1.1.0 }
 
 pub returns : goal.returns
 returns c =

@@ -10,24 +10,24 @@ use Rattle.frame.proofs.most.Goals as goal
 pub slice_bounds-start_map-end-2 : goal.slice_bounds-start_map-end-2
 slice_bounds-start_map-end-2 c =
     let a = c.args in
-    omega (arith, part_long a.counts2.rows a.marks.now c.requires.addable_2.1.0.2)
+    omega (arith, part_long a.counts2.rows a.marks.now c.requires.rows_nonzero.2)
 
 pub start_map-requires : goal.start_map-requires
 start_map-requires c =
     let a = c.args in
-    let p = c.requires in rw (part_long a.counts2.rows a.marks.now p.1.1.0.2) record { map_nonzero = p.1.1.0.0; latches_within = p.1.1.1 }
+    let p = (c.requires.addable, c.requires.addable_2, c.requires.rows_nonzero, c.requires.latches_within) in rw (part_long a.counts2.rows a.marks.now p.1.1.0.2) record { map_nonzero = p.1.1.0.0; latches_within = p.1.1.1 }
 
 pub slice_bounds-new_leaves-end-2 : goal.slice_bounds-new_leaves-end-2
 slice_bounds-new_leaves-end-2 c =
     let a = c.args in
-    let h = c.requires.addable_2.1.0.2 in
+    let h = c.requires.rows_nonzero.2 in
     let k = c.start_map.auto.map ∙ part_long a.counts2.rows a.marks.now h in
     sym (ap length (map_part a.counts2.rows a.marks.now h c.start_map.new.map k) ∙ k)
 
 pub new_leaves-leaves-requires : goal.new_leaves-leaves-requires
 new_leaves-leaves-requires c =
     let a = c.args in
-    let p = c.requires in
+    let p = (c.requires.addable, c.requires.addable_2, c.requires.rows_nonzero, c.requires.latches_within) in
     let h = p.1.1.0.2 in
     let k = c.start_map.auto.map ∙ part_long a.counts2.rows a.marks.now h in
     rw (map_part a.counts2.rows a.marks.now h c.start_map.new.map k, k) (p.1.1.0.1, p.1.0.rows)
@@ -47,7 +47,7 @@ new_leaves-leaves-requires c =
 pub returns : goal.returns
 returns c =
     let a = c.args in
-    let h = c.requires.addable_2.1.0.2 in
+    let h = c.requires.rows_nonzero.2 in
     let m = c.start_map.new.map in
     let k = c.start_map.auto.map ∙ part_long a.counts2.rows a.marks.now h in record {
       value = most_told a.counts a.latches.now a.rows2.now a.counts2 a.marks.now h c.start_map.ensures (map_part a.counts2.rows a.marks.now h m k)

@@ -8,18 +8,17 @@ use Rattle.frame.proofs.needed.Goals as goal
 pub slice_bounds-frame_of-end-4 : goal.slice_bounds-frame_of-end-4
 slice_bounds-frame_of-end-4 c =
     let a = c.args in
-    omega (arith, part_long a.counts2.rows a.marks.now c.requires.addable.1.1.0.2)
+    omega (arith, part_long a.counts2.rows a.marks.now c.requires.rows_nonzero.2)
 
 pub frame_of-reached-requires : goal.frame_of-reached-requires
 frame_of-reached-requires c =
     let a = c.args in
-    let p = c.requires in
-    rw (part_long a.counts2.rows a.marks.now p.1.1.1.0.2) (p.0, ((p.1.1.1.0.0, p.1.1.1.0.1, p.1.1.0.rows), ((p.1.0.rows, p.1.0.inputs), p.1.1.1.1)))
+    let p = (c.requires.all_rows, c.requires.addable, c.requires.addable_2, c.requires.rows_nonzero, c.requires.latches_within) in rw (part_long a.counts2.rows a.marks.now p.1.1.1.0.2) record { all_rows = p.0; map_nonzero = (p.1.1.1.0.0, p.1.1.1.0.1, p.1.1.0.rows); rows_le_max_rows = (p.1.0.rows, p.1.0.inputs); latches_within = p.1.1.1.1 }
 
 pub returns : goal.returns
 returns c =
     let a = c.args in
-    let p = c.requires in
+    let p = (c.requires.all_rows, c.requires.addable, c.requires.addable_2, c.requires.rows_nonzero, c.requires.latches_within) in
     let k = part_long a.counts2.rows a.marks.now p.1.1.1.0.2 in record {
       value = need_told a.counts a.latches.now a.rows2.now a.counts2 a.marks.now p.1.1.1.0.2 c.frame_of-reached.ensures c.raised.ensures;
       marks_after = c.clear.ensures ∙ map_cleared a.counts2.rows a.marks.now p.1.1.1.0.2 c.frame_of-reached.new.map

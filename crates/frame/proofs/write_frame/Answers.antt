@@ -25,14 +25,7 @@ frame_of-reached-requires c =
     let one = lent c.args.rows.now c.args.inputs.now c.args.latches.now c.args.constraints.now c.args.bads.now c.args.outputs.now c.args.ends.now c.args.edges.now c.args.fairness.now c.args.counts in
     let other = lent c.args.rows2.now c.args.inputs2.now c.args.latches2.now c.args.constraints2.now c.args.bads2.now c.args.outputs2.now c.args.ends2.now c.args.edges2.now c.args.fairness2.now c.args.counts2 in
     let a = c.args in
-    let r = (right (goal.at.frame_of-reached-requires c).Start).ready in
-    rw (part_long a.counts2.rows a.marks.now r.from.marked) (
-      r.from_formed.rows,
-      (
-        (r.from.rows.some, from_words (one) (other) _ r, few (one) (other) _ r),
-        (((addable (one) _ r.target).rows, (addable (one) _ r.target).inputs), latches_within (one) (other) _ r),
-      ),
-    )
+    let r = (right (goal.at.frame_of-reached-requires c).Start).ready in rw (part_long a.counts2.rows a.marks.now r.from.marked) record { all_rows = r.from_formed.rows; map_nonzero = (r.from.rows.some, from_words (one) (other) _ r, few (one) (other) _ r); rows_le_max_rows = ((addable (one) _ r.target).rows, (addable (one) _ r.target).inputs); latches_within = latches_within (one) (other) _ r }
 
 pub slice_bounds-grow_lists-end : goal.slice_bounds-grow_lists-end
 slice_bounds-grow_lists-end c =

@@ -8,8 +8,8 @@ flag_kept-requires c = c.requires.flags_ready
 
 pub number-kept-requires : goal.number-kept-requires
 number-kept-requires c =
-    number_needs c.args.rows.now c.args.latches.now c.args.constraints.now c.args.bads.now c.args.outputs.now c.args.edges.now
-    c.args.fairness.now c.args.counts c.args.marks.now c.requires.flags_ready c.flag_kept.ensures
+    let whole = number_needs c.args.rows.now c.args.latches.now c.args.constraints.now c.args.bads.now c.args.outputs.now c.args.edges.now
+    c.args.fairness.now c.args.counts c.args.marks.now c.requires.flags_ready c.flag_kept.ensures in record { marks_len_bound = whole.0; flags = whole.1 }
 
 pub count_inputs-kept_inputs-requires : goal.count_inputs-kept_inputs-requires
 count_inputs-kept_inputs-requires c =

@@ -27,14 +27,15 @@ slice_bounds-number_kept-end-2 c =
 
 pub number_kept-need-requires : goal.number_kept-need-requires
 number_kept-need-requires c =
-    let graph = lent c.args.rows.now c.args.inputs.now c.args.latches.now c.args.constraints.now c.args.bads.now c.args.outputs.now c.args.ends.now c.args.edges.now c.args.fairness.now c.args.counts in (
-      flags_ready (graph) _
+    let graph = lent c.args.rows.now c.args.inputs.now c.args.latches.now c.args.constraints.now c.args.bads.now c.args.outputs.now c.args.ends.now c.args.edges.now c.args.fairness.now c.args.counts in
+    record {
+      flags_ready = flags_ready (graph) _
           (lending (graph) c.args.room c.args.old c.args.marks.now c.asked-answer.result c.asked-answer.ensures c.is_done.ensures
-          c.if-not-is_done.false-raw).ready,
-      inputs_there (graph) _
+          c.if-not-is_done.false-raw).ready;
+      ids_there = inputs_there (graph) _
           (lending (graph) c.args.room c.args.old c.args.marks.now c.asked-answer.result c.asked-answer.ensures c.is_done.ensures
-          c.if-not-is_done.false-raw).ready,
-    )
+          c.if-not-is_done.false-raw).ready;
+    }
 
 pub clear-requires : goal.clear-requires
 clear-requires c =

@@ -37,23 +37,24 @@ shape_of-marks-then-not-step c =
     c.loop-j.edges c.loop-j.fairness c.loop-j.at) c.loop-j.j c.loop-j.invariant c.loop-j-test.true c.add_frame-step.ensures)
 
 pub returns-then-not-step : goal.returns-then-not-step
-returns-then-not-step c = (
-  stops
-      (lent c.args.rows.now c.args.inputs.now c.args.latches.now c.args.constraints.now c.args.bads.now c.args.outputs.now
-      c.args.ends.now c.args.edges.now c.args.fairness.now c.args.counts)
-      (lent c.args.rows2.now c.args.inputs2.now c.args.latches2.now c.args.constraints2.now c.args.bads2.now c.args.outputs2.now
-      c.args.ends2.now c.args.edges2.now c.args.fairness2.now c.args.counts2) c.args.frames c.args.marks.now c.requires
-      (lent c.loop-j.rows c.loop-j.inputs c.loop-j.latches c.loop-j.constraints c.loop-j.bads c.loop-j.outputs c.loop-j.ends
-      c.loop-j.edges c.loop-j.fairness c.loop-j.at) c.loop-j.j c.loop-j.invariant c.loop-j-test.true c.add_frame-step.ensures
-      c.if-not-step.true,
-  marks_same
-      (lent c.args.rows.now c.args.inputs.now c.args.latches.now c.args.constraints.now c.args.bads.now c.args.outputs.now
-      c.args.ends.now c.args.edges.now c.args.fairness.now c.args.counts)
-      (lent c.args.rows2.now c.args.inputs2.now c.args.latches2.now c.args.constraints2.now c.args.bads2.now c.args.outputs2.now
-      c.args.ends2.now c.args.edges2.now c.args.fairness2.now c.args.counts2) c.args.frames c.args.marks.now c.requires
-      (lent c.loop-j.rows c.loop-j.inputs c.loop-j.latches c.loop-j.constraints c.loop-j.bads c.loop-j.outputs c.loop-j.ends
-      c.loop-j.edges c.loop-j.fairness c.loop-j.at) c.loop-j.j c.loop-j.invariant c.loop-j-test.true c.add_frame-step.ensures,
-)
+returns-then-not-step c =
+    record {
+      counts_after = stops
+          (lent c.args.rows.now c.args.inputs.now c.args.latches.now c.args.constraints.now c.args.bads.now c.args.outputs.now
+          c.args.ends.now c.args.edges.now c.args.fairness.now c.args.counts)
+          (lent c.args.rows2.now c.args.inputs2.now c.args.latches2.now c.args.constraints2.now c.args.bads2.now c.args.outputs2.now
+          c.args.ends2.now c.args.edges2.now c.args.fairness2.now c.args.counts2) c.args.frames c.args.marks.now c.requires
+          (lent c.loop-j.rows c.loop-j.inputs c.loop-j.latches c.loop-j.constraints c.loop-j.bads c.loop-j.outputs c.loop-j.ends
+          c.loop-j.edges c.loop-j.fairness c.loop-j.at) c.loop-j.j c.loop-j.invariant c.loop-j-test.true c.add_frame-step.ensures
+          c.if-not-step.true;
+      marks_unchanged = marks_same
+          (lent c.args.rows.now c.args.inputs.now c.args.latches.now c.args.constraints.now c.args.bads.now c.args.outputs.now
+          c.args.ends.now c.args.edges.now c.args.fairness.now c.args.counts)
+          (lent c.args.rows2.now c.args.inputs2.now c.args.latches2.now c.args.constraints2.now c.args.bads2.now c.args.outputs2.now
+          c.args.ends2.now c.args.edges2.now c.args.fairness2.now c.args.counts2) c.args.frames c.args.marks.now c.requires
+          (lent c.loop-j.rows c.loop-j.inputs c.loop-j.latches c.loop-j.constraints c.loop-j.bads c.loop-j.outputs c.loop-j.ends
+          c.loop-j.edges c.loop-j.fairness c.loop-j.at) c.loop-j.j c.loop-j.invariant c.loop-j-test.true c.add_frame-step.ensures;
+    }
 
 -- ?? overflow-add-j
 -- add-j c =

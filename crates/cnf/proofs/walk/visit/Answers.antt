@@ -9,16 +9,13 @@ use borrow.Author.Rules.{rules}
 use Rattle.cnf.proofs.walk.visit.Goals as goal
 
 pub returns-then-not-marks-i : goal.returns-then-not-marks-i
-returns-then-not-marks-i c =
-    let a = c.args in
-    (row_passed a.shortcuts a.rows.now a.i a.marks.now c.is_gate.ensures c.if-not-marks-i.true-raw, mark_none a.marks.now _ (no_operands Unwritten refl))
+returns-then-not-marks-i c = let a = c.args in record { shape = row_passed a.shortcuts a.rows.now a.i a.marks.now c.is_gate.ensures c.if-not-marks-i.true-raw; marked = mark_none a.marks.now _ (no_operands Unwritten refl) }
 
 pub shape_of-s-requires : goal.shape_of-s-requires
 shape_of-s-requires c =
     let a = c.args in
     let h = gate_below a.i (word0 a.rows.now a.i) (word1 a.rows.now a.i)
-    (row_gate a.shortcuts a.rows.now a.i a.marks.now c.is_gate.ensures c.if-not-marks-i.false-raw) in
-    (omega (arith, c.requires.i_in_bounds), omega (arith, c.requires.i_in_bounds))
+    (row_gate a.shortcuts a.rows.now a.i a.marks.now c.is_gate.ensures c.if-not-marks-i.false-raw) in record { f_in_bounds = omega (arith, c.requires.i_in_bounds); g_in_bounds = omega (arith, c.requires.i_in_bounds) }
 
 pub mark_operands-requires : goal.mark_operands-requires
 mark_operands-requires c =

@@ -23,11 +23,7 @@ pub overflow_cast-i : goal.overflow_cast-i
 overflow_cast-i c = omega (arith, c.type_inv.stack (c.loop-count.count - 1))
 
 pub step-count-requires : goal.step-count-requires
-step-count-requires c =
-    rw (c.loop-count.invariant.0, c.loop-count.invariant.1) (
-      top_used _ _ _ _ _ c.loop-count-test.true c.loop-count.invariant.2,
-      (c.requires.known, rest_going _ _ _ _ _ c.loop-count-test.true c.loop-count.invariant.2),
-    )
+step-count-requires c = rw (c.loop-count.invariant.0, c.loop-count.invariant.1) record { i_in_bounds = top_used _ _ _ _ _ c.loop-count-test.true c.loop-count.invariant.2; known = c.requires.known; going = rest_going _ _ _ _ _ c.loop-count-test.true c.loop-count.invariant.2 }
 
 pub loop-count-smaller : goal.loop-count-smaller
 loop-count-smaller c =

@@ -10,26 +10,26 @@ use Rattle.coi.proofs.walk.search.Goals as goal
 
 pub visit-first-requires : goal.visit-first-requires
 visit-first-requires c =
-    rw (c.flags-1.given, c.requires.ids_value.1) (
-      c.requires.known.some,
-      start_going (length c.args.flags.now) _ c.args.stack.now (c.clear.ensures ∙ cleared_all c.args.flags.now (length c.args.flags.now) refl)
-          c.requires.known.small,
-    )
+    rw (c.flags-1.given, c.requires.stack_len) record {
+      j_in_bounds = c.requires.known.some;
+      going = start_going (length c.args.flags.now) _ c.args.stack.now (c.clear.ensures ∙ cleared_all c.args.flags.now (length c.args.flags.now) refl)
+          c.requires.known.small;
+    }
 
 pub visit_all-count-requires : goal.visit_all-count-requires
 visit_all-count-requires c =
-    rw (c.flags-2-1.given, c.flags-1.given, c.stack-1.given, c.requires.ids_value.1) (
-      c.requires.ids_value.0,
-      going_on _ _ 0 c.visit-first.ensures c.requires.known.some
+    rw (c.flags-2-1.given, c.flags-1.given, c.stack-1.given, c.requires.stack_len) record {
+      ids_value = c.requires.ids_value;
+      going = going_on _ _ 0 c.visit-first.ensures c.requires.known.some
           (start_going (length c.args.flags.now) _ c.args.stack.now (c.clear.ensures ∙ cleared_all c.args.flags.now (length c.args.flags.now) refl)
-          c.requires.known.small),
-    )
+          c.requires.known.small);
+    }
 
 pub drain-requires : goal.drain-requires
 drain-requires c =
-    rw (c.flags-3-1.given, c.flags-2-1.given, c.flags-1.given, c.stack-2-1.given, c.stack-1.given, c.requires.ids_value.1) record {
+    rw (c.flags-3-1.given, c.flags-2-1.given, c.flags-1.given, c.stack-2-1.given, c.stack-1.given, c.requires.stack_len) record {
       known = c.requires.known;
-      going = all_going_on _ _ c.args.ids.now c.visit_all-count.ensures c.requires.ids_value.0
+      going = all_going_on _ _ c.args.ids.now c.visit_all-count.ensures c.requires.ids_value
           (going_on _ _ 0 c.visit-first.ensures c.requires.known.some
           (start_going (length c.args.flags.now) _ c.args.stack.now (c.clear.ensures ∙ cleared_all c.args.flags.now (length c.args.flags.now) refl)
           c.requires.known.small));
@@ -39,5 +39,5 @@ pub returns : goal.returns
 returns c =
     c.drain.ensures ∙ walked (length c.args.flags.now) _ c.args.stack.now
     (c.clear.ensures ∙ cleared_all c.args.flags.now (length c.args.flags.now) refl) c.requires.known.small c.requires.known.some
-    (steps_by c.args.rows.now c.args.latches.now c.args.marks.now) c.args.ids.now c.requires.ids_value.0 c.visit-first.ensures
+    (steps_by c.args.rows.now c.args.latches.now c.args.marks.now) c.args.ids.now c.requires.ids_value c.visit-first.ensures
     c.visit_all-count.ensures

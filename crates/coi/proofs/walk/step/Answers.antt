@@ -33,13 +33,13 @@ no_gate c = sym c.is_gate.ensures ∙ c.if-is_gate.false
 -- cast-visit c = omega (arith, fanins c)
 
 pub visit-n-requires : goal.visit-n-requires
-visit-n-requires c = (omega (arith, fanins (goal.at.visit-n-requires c).Then-is_gate), c.requires.known.1)
+visit-n-requires c = record { j_in_bounds = omega (arith, fanins (goal.at.visit-n-requires c).Then-is_gate); going = c.requires.going }
 
 -- ?? overflow-cast-visit-2
 -- cast-visit-2 c = omega (arith, fanins c.before.before.before.before.before.before.before)
 
 pub visit-requires : goal.visit-requires
-visit-requires c = rw (c.flags-1.given, c.stack-1.given) record { j_in_bounds = omega (arith, fanins (goal.at.visit-requires c).Then-is_gate); going = going_on _ _ _ c.visit-n.ensures (omega (arith, fanins (goal.at.visit-requires c).Then-is_gate)) c.requires.known.1 }
+visit-requires c = rw (c.flags-1.given, c.stack-1.given) record { j_in_bounds = omega (arith, fanins (goal.at.visit-requires c).Then-is_gate); going = going_on _ _ _ c.visit-n.ensures (omega (arith, fanins (goal.at.visit-requires c).Then-is_gate)) c.requires.going }
 
 pub returns-then-is_gate : goal.returns-then-is_gate
 returns-then-is_gate c =
@@ -54,10 +54,10 @@ pub returns-then-at-eq0 : goal.returns-then-at-eq0
 returns-then-at-eq0 c = no_steps c.args.rows.now c.args.latches.now (get_or c.args.marks.now c.args.i 0) c.args.i (no_gate (goal.at.returns-then-at-eq0 c).Else-is_gate) c.if-at-eq0.true _
 
 pub latch_at-l-requires : goal.latch_at-l-requires
-latch_at-l-requires c = omega (arith, c.requires.known.0.latch_there c.args.i (omega arith))
+latch_at-l-requires c = omega (arith, c.requires.known.latch_there c.args.i (omega arith))
 
 pub visit-requires-2 : goal.visit-requires-2
-visit-requires-2 c = record { j_in_bounds = rw c.latch_at-l.ensures (c.requires.known.0.next_used c.args.i (omega arith)); going = c.requires.known.1 }
+visit-requires-2 c = record { j_in_bounds = rw c.latch_at-l.ensures (c.requires.known.next_used c.args.i (omega arith)); going = c.requires.going }
 
 pub returns : goal.returns
 returns c =

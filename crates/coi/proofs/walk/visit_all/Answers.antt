@@ -25,7 +25,7 @@ pub overflow_cast-j : goal.overflow_cast-j
 overflow_cast-j c = omega (arith, c.type_inv.ids c.loop-k.k)
 
 pub visit-count-requires : goal.visit-count-requires
-visit-count-requires c = rw (c.loop-k.invariant.1, c.loop-k.invariant.2) (id_used (goal.at.visit-count-requires c).In-loop-k, c.loop-k.invariant.3)
+visit-count-requires c = rw (c.loop-k.invariant.1, c.loop-k.invariant.2) record { j_in_bounds = id_used (goal.at.visit-count-requires c).In-loop-k; going = c.loop-k.invariant.3 }
 
 pub loop-k-preserved : goal.loop-k-preserved
 loop-k-preserved c = (

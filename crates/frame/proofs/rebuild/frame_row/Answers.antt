@@ -9,12 +9,12 @@ use Rattle.frame.proofs.rebuild.frame_row.Goals as goal
 pub mapped-requires : goal.mapped-requires
 mapped-requires c =
     let l = gate_below c.args.i _ _ (first_gate_lem c.args.from.now c.args.i c.requires.i_value.0 (omega (arith, c.if-a-lt-EDGES_END.true))) in
-    omega (arith, l.0, c.requires.i_in_bounds.0.1)
+    omega (arith, l.0, c.requires.i_in_bounds.1)
 
 pub mapped-requires-then-a-lt-EDGES_END : goal.mapped-requires-then-a-lt-EDGES_END
 mapped-requires-then-a-lt-EDGES_END c =
     let l = gate_below c.args.i _ _ (first_gate_lem c.args.from.now c.args.i c.requires.i_value.0 (omega (arith, c.if-a-lt-EDGES_END.true))) in
-    omega (arith, l.1, c.requires.i_in_bounds.0.1)
+    omega (arith, l.1, c.requires.i_in_bounds.1)
 
 pub returns-then-a-lt-EDGES_END : goal.returns-then-a-lt-EDGES_END
 returns-then-a-lt-EDGES_END c =

@@ -13,9 +13,7 @@ pub loop-i-init : goal.loop-i-init
 loop-i-init c = (search rules, search rules, search rules, refl, refl, refl, rw sub-zero)
 
 pub frame_row-next-requires : goal.frame_row-next-requires
-frame_row-next-requires c =
-    let l = c.loop-i in
-    ((c.requires.all_rows l.i c.loop-i-test.true, search rules), (search rules, search rules))
+frame_row-next-requires c = let l = c.loop-i in record { i_value = (c.requires.all_rows l.i c.loop-i-test.true, search rules); i_in_bounds = search rules; used_le_step_limit = search rules }
 
 pub loop-i-preserved : goal.loop-i-preserved
 loop-i-preserved c =

@@ -20,7 +20,7 @@ pub clear-requires : goal.clear-requires
 clear-requires c = (known (goal.at.clear-requires c).Start).marked
 
 pub check_stages-answer-requires : goal.check_stages-answer-requires
-check_stages-answer-requires c = (rw c.clear.auto.marks (known (goal.at.check_stages-answer-requires c).Start), rw c.clear.ensures (marks_none _ _))
+check_stages-answer-requires c = record { sized = rw c.clear.auto.marks (known (goal.at.check_stages-answer-requires c).Start); marks = rw c.clear.ensures (marks_none _ _) }
 
 pub clear-requires-2 : goal.clear-requires-2
 clear-requires-2 c = omega (arith, (known (goal.at.clear-requires-2 c).Start).marked)

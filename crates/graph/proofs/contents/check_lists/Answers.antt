@@ -28,7 +28,10 @@ past_justice : (c : Else-not-is_done)
     ≡ first_fault (edge_stage a.counts.rows 7 a.fairness.now a.counts.fairness ∷ [])
 past_justice c =
     let a = c.args in
-    past (?at After-check_justice-justice) ∙ join_goes _ (justice_entries a.counts.rows a.ends.now a.counts.sets a.edges.now a.counts.edges)
+    stage_goes _ _ (sym c.first_bad_edge.ensures ∙ c.in-Nothing.is) ∙
+    (stage_goes _ _ (sym c.first_bad_edge-2.ensures ∙ c.in-Nothing-first_bad_edge.is) ∙ stage_goes _ _
+    (sym c.first_bad_edge-3.ensures ∙ c.in-Nothing-first_bad_edge-2.is)) ∙
+    join_goes _ (justice_entries a.counts.rows a.ends.now a.counts.sets a.edges.now a.counts.edges)
     (test_done c.check_justice-justice.ensures c.is_done.ensures c.if-not-is_done.false-raw)
 
 pub returns-in-At : goal.returns-in-At

@@ -18,27 +18,26 @@ refused {r} e f p =
 
 pub returns-in-At : goal.returns-in-At
 returns-in-At c =
-    refused c.bad_entry.ensures (sym (stage_stops _ _ (sym c.first_bad_input.ensures.value ∙ c.in-At.is)))
-    c.first_bad_input.ensures.marks_unchanged.0
+    let whole = refused c.bad_entry.ensures (sym (stage_stops _ _ (sym c.first_bad_input.ensures.value ∙ c.in-At.is)))
+    c.first_bad_input.ensures.marks_unchanged in record { result_value = whole.0; marks_unchanged = whole.1.0; marks_2 = whole.1.1 }
 
 pub first_bad_latch-requires : goal.first_bad_latch-requires
-first_bad_latch-requires c = record { used_in_bounds = search rules; marks = c.first_bad_input.ensures.marks_unchanged.1 c.in-Nothing.is }
+first_bad_latch-requires c = record { used_in_bounds = search rules; marks = c.first_bad_input.ensures.marks_2 c.in-Nothing.is }
 
 pub returns-in-At-first_bad_latch : goal.returns-in-At-first_bad_latch
 returns-in-At-first_bad_latch c =
-    refused c.bad_entry-in-At-first_bad_latch.ensures
+    let whole = refused c.bad_entry-in-At-first_bad_latch.ensures
     (sym
     (stage_goes _ _ (sym c.first_bad_input.ensures.value ∙ c.in-Nothing.is) ∙ stage_stops _ _
     (sym c.first_bad_latch.ensures.value ∙ c.in-At-first_bad_latch.is)))
-    (c.first_bad_latch.ensures.marks_unchanged.0 ∙ c.first_bad_input.ensures.marks_unchanged.0)
+    (c.first_bad_latch.ensures.marks_unchanged ∙ c.first_bad_input.ensures.marks_unchanged) in record { result_value = whole.0; marks_unchanged = whole.1.0; marks_2 = whole.1.1 }
 
 pub returns-in-Nothing-first_bad_latch : goal.returns-in-Nothing-first_bad_latch
-returns-in-Nothing-first_bad_latch c = (
-  sym
-      (stage_goes _ _ (sym c.first_bad_input.ensures.value ∙ c.in-Nothing.is) ∙
-      (stage_goes _ _ (sym c.first_bad_latch.ensures.value ∙ c.in-Nothing-first_bad_latch.is) ∙ none_left)),
-  (
-    c.first_bad_latch.ensures.marks_unchanged.0 ∙ c.first_bad_input.ensures.marks_unchanged.0,
-    λ _. c.first_bad_latch.ensures.marks_unchanged.1 c.in-Nothing-first_bad_latch.is,
-  ),
-)
+returns-in-Nothing-first_bad_latch c =
+    record {
+      result_value = sym
+          (stage_goes _ _ (sym c.first_bad_input.ensures.value ∙ c.in-Nothing.is) ∙
+          (stage_goes _ _ (sym c.first_bad_latch.ensures.value ∙ c.in-Nothing-first_bad_latch.is) ∙ none_left));
+      marks_unchanged = c.first_bad_latch.ensures.marks_unchanged ∙ c.first_bad_input.ensures.marks_unchanged;
+      marks_2 = λ _. c.first_bad_latch.ensures.marks_2 c.in-Nothing-first_bad_latch.is;
+    }

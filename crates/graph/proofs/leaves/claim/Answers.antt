@@ -7,11 +7,11 @@ use Rattle.graph.proofs.leaves.claim.Goals as goal
 
 pub returns-then-used-i : goal.returns-then-used-i
 unfolding unmarked_leaf
-returns-then-used-i c = (simp (le-ltb _ _ c.if-used-i.true), refl)
+returns-then-used-i c = record { value = simp (le-ltb _ _ c.if-used-i.true); marks_after = refl }
 
 pub returns-then-is_leaf-marks : goal.returns-then-is_leaf-marks
 unfolding unmarked_leaf
-returns-then-is_leaf-marks c = (rw (lt-ltb _ _ c.if-used-i.false, ← c.is_leaf.ensures) (sym c.if-is_leaf-marks.true), refl)
+returns-then-is_leaf-marks c = record { value = rw (lt-ltb _ _ c.if-used-i.false, ← c.is_leaf.ensures) (sym c.if-is_leaf-marks.true); marks_after = refl }
 
 pub returns : goal.returns
 unfolding unmarked_leaf

@@ -22,11 +22,7 @@ pub loop-i-init : goal.loop-i-init
 loop-i-init c = (search rules, refl, refl, c.requires.marks, rw sub-zero)
 
 pub returns-then-not-claim : goal.returns-then-not-claim
-returns-then-not-claim c =
-    let stopped = c.loop-i.invariant.4 ∙ stops _ _ _ c.loop-i-test.true (sym (judged (goal.at.returns-then-not-claim c).After-claim) ∙ not-true _ c.if-not-claim.true-raw) in (
-      sym stopped,
-      (claim_beyond _ _ _ _ _ _ c.claim.ensures.value c.claim.ensures.marks_after ∙ c.loop-i.invariant.2, λ e. absurd (at_nothing e)),
-    )
+returns-then-not-claim c = let stopped = c.loop-i.invariant.4 ∙ stops _ _ _ c.loop-i-test.true (sym (judged (goal.at.returns-then-not-claim c).After-claim) ∙ not-true _ c.if-not-claim.true-raw) in record { value = sym stopped; marks_unchanged = claim_beyond _ _ _ _ _ _ c.claim.ensures.value c.claim.ensures.marks_after ∙ c.loop-i.invariant.2; marks_2 = λ e. absurd (at_nothing e) }
 
 pub loop-i-preserved : goal.loop-i-preserved
 loop-i-preserved c =

@@ -34,9 +34,7 @@ unfolding latch_inputs
 loop-i-init c = (search rules, refl, refl, rw append-nil c.requires.marks, rw sub-zero)
 
 pub returns-then-not-claim-latch_edges : goal.returns-then-not-claim-latch_edges
-returns-then-not-claim-latch_edges c =
-    let stopped = c.loop-i.invariant.4 ∙ stops _ _ _ c.loop-i-test.true (sym (judged (goal.at.returns-then-not-claim-latch_edges c).After-latch_edges) ∙ not-true _ c.if-not-claim-latch_edges.true-raw) in
-    (sym stopped, (claim_beyond _ _ _ _ _ _ c.claim.ensures.value c.claim.ensures.marks_after ∙ c.loop-i.invariant.2, λ e. absurd (at_nothing e)))
+returns-then-not-claim-latch_edges c = let stopped = c.loop-i.invariant.4 ∙ stops _ _ _ c.loop-i-test.true (sym (judged (goal.at.returns-then-not-claim-latch_edges c).After-latch_edges) ∙ not-true _ c.if-not-claim-latch_edges.true-raw) in record { value = sym stopped; marks_unchanged = claim_beyond _ _ _ _ _ _ c.claim.ensures.value c.claim.ensures.marks_after ∙ c.loop-i.invariant.2; marks_2 = λ e. absurd (at_nothing e) }
 
 pub loop-i-preserved : goal.loop-i-preserved
 loop-i-preserved c = (

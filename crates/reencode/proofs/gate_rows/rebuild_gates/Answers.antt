@@ -46,7 +46,7 @@ loop-i-preserved c = (
       c.loop-i.i c.loop-i.invariant.3
       c.loop-i.invariant.5
       c.args.out.now
-      c.loop-i.invariant.4 c.rebuild_gate-k.ensures.out_after.0,
+      c.loop-i.invariant.4 c.rebuild_gate-k.ensures.out_after,
   half_turn c.args.rows.now
       c.args.first
       c.args.marks.now
@@ -56,14 +56,14 @@ loop-i-preserved c = (
         arith,
         c.loop-i.invariant.2,
         c.requires.marks_long,
-      )) c.rebuild_gate-k.ensures.out_after.1,
+      )) c.rebuild_gate-k.ensures.marks_after,
   half_beyond c.args.rows.now
       c.args.first
       c.args.marks.now
       c.loop-i.i c.loop-i.invariant.3
       c.loop-i.invariant.5
       c.args.used c.loop-i-test.true
-      c.rebuild_gate-k.ensures.out_after.1 c.loop-i.invariant.6,
+      c.rebuild_gate-k.ensures.marks_after c.loop-i.invariant.6,
 )
 
 pub returns : goal.returns

@@ -21,7 +21,7 @@ overflow_add-n c = omega (arith, c.loop-i.invariant.1, count_within (leaf_at c.a
 pub loop-i-preserved : goal.loop-i-preserved
 loop-i-preserved c =
     let a = c.args in
-    let p = c.requires in
+    let p = (c.requires.used_in_bounds, c.requires.used_le_max_rows, c.requires.all_rows) in
     let l = c.loop-i in
     let leaf = leaf_at a.rows.now in (
       search rules,

@@ -15,7 +15,7 @@ unfolding rows3
 loop-i-init c = (search rules, refl, refl)
 
 pub row_code-v-requires : goal.row_code-v-requires
-row_code-v-requires c = ((search rules, search rules), turn_codes _ _ _ c.args.values.now (omega arith) _ c.loop-i.invariant.2 (λ j h. c.requires.codes j (omega arith)))
+row_code-v-requires c = record { i_in_bounds = (search rules, search rules); codes = turn_codes _ _ _ c.args.values.now (omega arith) _ c.loop-i.invariant.2 (λ j h. c.requires.codes j (omega arith)) }
 
 pub loop-i-preserved : goal.loop-i-preserved
 loop-i-preserved c = (search rules, search rules, turn _ _ _ c.args.values.now (omega arith) _ c.loop-i.invariant.2 refl _ c.row_code-v.ensures)
