@@ -24,7 +24,13 @@ judged c =
     rw (← (c.latch_edges.ensures ∙ ap (latch_edges a.counts.rows) c.latch_of-l.ensures)) c.latch_answer-answer.ensures
 
 room : (c : Else-not-is_done) → let a = c.args in Fits a.counts (latches_lent a.latches.now) (a.counts.latches + 1)
-room c = latch_fits _ _ c.args.counts _ _ (test_done (judged (?at After-latch_answer-answer)) c.is_done.ensures c.if-not-is_done.false-raw)
+room c =
+    let a = c.args in
+    let judged :
+            told c.latch_answer-answer.result
+            ≡ latch_answer a.rows.now (latches_lent a.latches.now) a.counts (ltb a.input a.counts.rows && latch_edges a.counts.rows (latch a.input a.next a.init)) true =
+        rw (← (c.latch_edges.ensures ∙ ap (latch_edges a.counts.rows) c.latch_of-l.ensures)) c.latch_answer-answer.ensures in
+    latch_fits _ _ c.args.counts _ _ (test_done judged c.is_done.ensures c.if-not-is_done.false-raw)
 
 pub returns-then-not-is_done : goal.returns-then-not-is_done
 unfolding add_latch_call
@@ -35,8 +41,8 @@ returns-then-not-is_done c =
 pub write_latch-requires : goal.write_latch-requires
 write_latch-requires c = omega (arith, (room (goal.at.write_latch-requires c).Else-not-is_done).entry)
 
--- ?? overflow-add-was-added
--- add-was-added c = omega (arith, (room c.before.before.before.before).entry)
+pub overflow_add-n : goal.overflow_add-n
+overflow_add-n c = omega (arith, (room (goal.at.overflow_add-n c).Else-not-is_done).entry)
 
 pub returns : goal.returns
 unfolding add_latch_call

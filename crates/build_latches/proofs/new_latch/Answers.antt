@@ -27,7 +27,17 @@ judged c =
     ) c.latch_answer-answer.ensures
 
 room : (c : Else-not-is_done) → let a = c.args in Fits a.counts (latches_lent a.latches.now) (a.counts.latches + 1)
-room c = latch_fits _ _ c.args.counts _ _ (test_done (judged (?at After-latch_answer-answer)) c.is_done.ensures c.if-not-is_done.false-raw)
+room c =
+    let a = c.args in
+    let judged :
+            told c.latch_answer-answer.result
+            ≡ latch_answer a.rows.now (latches_lent a.latches.now) a.counts (latch_edges a.counts.rows (latch a.counts.rows a.next a.init)) (free_row a.rows.now a.counts.rows) =
+        rw (
+          ← c.free_row-free.ensures,
+          edges_of_lem a.counts.rows a.counts.rows 0 a.next a.init,
+          ← (c.latch_edges-good.ensures ∙ ap (latch_edges a.counts.rows) c.latch_of.ensures),
+        ) c.latch_answer-answer.ensures in
+    latch_fits _ _ c.args.counts _ _ (test_done judged c.is_done.ensures c.if-not-is_done.false-raw)
 
 pub returns-then-not-is_done : goal.returns-then-not-is_done
 unfolding new_latch_call
@@ -44,11 +54,11 @@ add_row-requires c = omega (arith, (room (goal.at.add_row-requires c).Else-not-i
 pub write_latch-requires : goal.write_latch-requires
 write_latch-requires c = omega (arith, (room (goal.at.write_latch-requires c).Else-not-is_done).entry)
 
--- ?? overflow-add-was-added
--- add-was-added c = omega (arith, (room c.before.before.before.before.before.before.before.before.before).rows)
+pub overflow_add-used : goal.overflow_add-used
+overflow_add-used c = omega (arith, (room (goal.at.overflow_add-used c).Else-not-is_done).rows)
 
--- ?? overflow-add-was-added-2
--- add-was-added-2 c = omega (arith, (room c.before.before.before.before.before.before.before.before.before).entry)
+pub overflow_add-n : goal.overflow_add-n
+overflow_add-n c = omega (arith, (room (goal.at.overflow_add-n c).Else-not-is_done).entry)
 
 pub returns : goal.returns
 unfolding new_latch_call

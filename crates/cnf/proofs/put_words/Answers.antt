@@ -15,15 +15,15 @@ pub put_rows-end-requires : goal.put_rows-end-requires
 put_rows-end-requires c =
     let roots = roots_in c.args.latches.now c.args.constraints.now c.args.bads.now c.args.outputs.now c.args.edges.now c.args.fairness.now c.args.counts in
     let a = c.args in
-    let long = marked_long a.shortcuts a.rows.now (roots) a.marks.now c.requires.clauses_ready c.mark_roots.ensures in record { marks_in_bounds = omega (arith, long, c.requires.clauses_ready.rows_there); marks_len_bound = omega (arith, long, c.requires.clauses_ready.rows_few) }
+    let long = marked_long a.shortcuts a.rows.now roots a.marks.now c.requires.clauses_ready c.mark_roots.ensures in record { marks_in_bounds = omega (arith, long, c.requires.clauses_ready.rows_there); marks_len_bound = omega (arith, long, c.requires.clauses_ready.rows_few) }
 
 pub returns : goal.returns
 returns c =
     let roots = roots_in c.args.latches.now c.args.constraints.now c.args.bads.now c.args.outputs.now c.args.edges.now c.args.fairness.now c.args.counts in
     let a = c.args in
     let m = c.mark_roots.ensures in record {
-      number = number a.shortcuts a.rows.now (roots) a.marks.now c.requires.clauses_ready m c.put_rows-end.ensures.place;
-      written = written a.shortcuts a.rows.now (roots) a.marks.now c.requires.clauses_ready m a.clauses.now c.put_unit.ensures c.clauses-1.given
+      number = number a.shortcuts a.rows.now roots a.marks.now c.requires.clauses_ready m c.put_rows-end.ensures.place;
+      written = written a.shortcuts a.rows.now roots a.marks.now c.requires.clauses_ready m a.clauses.now c.put_unit.ensures c.clauses-1.given
           c.put_rows-end.ensures.written;
-      kept = back a.shortcuts a.rows.now (roots) a.marks.now c.requires.clauses_ready m c.put_rows-end.new.marks c.marks-2-1.given c.clear.ensures;
+      kept = back a.shortcuts a.rows.now roots a.marks.now c.requires.clauses_ready m c.put_rows-end.new.marks c.marks-2-1.given c.clear.ensures;
     }

@@ -12,14 +12,14 @@ pub returns-then-not-counts-flags : goal.returns-then-not-counts-flags
 unfolding coi_checked
 returns-then-not-counts-flags c =
     let graph = lent c.args.rows.now c.args.inputs.now c.args.latches.now c.args.constraints.now c.args.bads.now c.args.outputs.now c.args.ends.now c.args.edges.now c.args.fairness.now c.args.counts in
-    args_room (coi_room (graph) c.args.ids.now c.args.flags c.args.stack) (every (used_row c.args.counts.rows) c.args.ids.now)
-    (graph) c.args.marks.now (not-true _ c.if-not-counts-flags.true-raw)
+    args_room (coi_room graph c.args.ids.now c.args.flags c.args.stack) (every (used_row c.args.counts.rows) c.args.ids.now)
+    graph c.args.marks.now (not-true _ c.if-not-counts-flags.true-raw)
 
 pub returns-then-is_done-ids_used : goal.returns-then-is_done-ids_used
 unfolding coi_checked
 returns-then-is_done-ids_used c =
     let graph = lent c.args.rows.now c.args.inputs.now c.args.latches.now c.args.constraints.now c.args.bads.now c.args.outputs.now c.args.ends.now c.args.edges.now c.args.fairness.now c.args.counts in
-    args_bad (coi_room (graph) c.args.ids.now c.args.flags c.args.stack) (every (used_row c.args.counts.rows) c.args.ids.now) (graph)
+    args_bad (coi_room graph c.args.ids.now c.args.flags c.args.stack) (every (used_row c.args.counts.rows) c.args.ids.now) graph
     c.args.marks.now (not-false _ c.if-not-counts-flags.false-raw) c.check-answer.result _ c.check-answer.ensures
     (rw (← c.is_done.ensures, ← c.ids_used.ensures) c.if-is_done-ids_used.true)
 
@@ -27,6 +27,6 @@ pub returns : goal.returns
 unfolding coi_checked
 returns c =
     let graph = lent c.args.rows.now c.args.inputs.now c.args.latches.now c.args.constraints.now c.args.bads.now c.args.outputs.now c.args.ends.now c.args.edges.now c.args.fairness.now c.args.counts in
-    args_told (coi_room (graph) c.args.ids.now c.args.flags c.args.stack) (every (used_row c.args.counts.rows) c.args.ids.now)
-    (graph) c.args.marks.now (not-false _ c.if-not-counts-flags.false-raw) c.check-answer.result _ c.check-answer.ensures
+    args_told (coi_room graph c.args.ids.now c.args.flags c.args.stack) (every (used_row c.args.counts.rows) c.args.ids.now)
+    graph c.args.marks.now (not-false _ c.if-not-counts-flags.false-raw) c.check-answer.result _ c.check-answer.ensures
     (rw (← c.is_done.ensures, ← c.ids_used.ensures) c.if-is_done-ids_used.false)

@@ -9,28 +9,28 @@ use Rattle.coi.proofs.coi.Goals.{Else-not-is_done}
 -- the call is accepted
 known : (c : Else-not-is_done) →
     let graph = lent c.args.rows.now c.args.inputs.now c.args.latches.now c.args.constraints.now c.args.bads.now c.args.outputs.now c.args.ends.now c.args.edges.now c.args.fairness.now c.args.counts in
-    Parts (graph) c.args.ids.now c.args.flags.now c.checked-answer.new.marks c.clear.new.marks
+    Parts graph c.args.ids.now c.args.flags.now c.checked-answer.new.marks c.clear.new.marks
 known c =
     let graph = lent c.args.rows.now c.args.inputs.now c.args.latches.now c.args.constraints.now c.args.bads.now c.args.outputs.now c.args.ends.now c.args.edges.now c.args.fairness.now c.args.counts in
-    parts (graph) c.args.ids.now c.args.flags.now c.args.marks.now c.args.stack.now c.checked-answer.result c.checked-answer.ensures
+    parts graph c.args.ids.now c.args.flags.now c.args.marks.now c.args.stack.now c.checked-answer.result c.checked-answer.ensures
     c.is_bad_sizes.ensures c.if-is_bad_sizes.false c.clear.ensures c.is_done.ensures c.if-not-is_done.false-raw
 
 pub returns-then-is_bad_sizes : goal.returns-then-is_bad_sizes
 returns-then-is_bad_sizes c =
     let graph = lent c.args.rows.now c.args.inputs.now c.args.latches.now c.args.constraints.now c.args.bads.now c.args.outputs.now c.args.ends.now c.args.edges.now c.args.fairness.now c.args.counts in
-    coi_sizes (graph) c.args.ids.now c.args.flags.now c.args.marks.now c.args.stack.now c.checked-answer.result
+    coi_sizes graph c.args.ids.now c.args.flags.now c.args.marks.now c.args.stack.now c.checked-answer.result
     c.checked-answer.ensures c.is_bad_sizes.ensures c.if-is_bad_sizes.true
 
 pub clear-requires : goal.clear-requires
 clear-requires c =
     let graph = lent c.args.rows.now c.args.inputs.now c.args.latches.now c.args.constraints.now c.args.bads.now c.args.outputs.now c.args.ends.now c.args.edges.now c.args.fairness.now c.args.counts in
-    stack_room (graph) c.args.ids.now c.args.flags.now c.args.marks.now c.args.stack.now c.checked-answer.result
+    stack_room graph c.args.ids.now c.args.flags.now c.args.marks.now c.args.stack.now c.checked-answer.result
     c.checked-answer.ensures c.is_bad_sizes.ensures c.if-is_bad_sizes.false
 
 pub returns-then-not-is_done : goal.returns-then-not-is_done
 returns-then-not-is_done c =
     let graph = lent c.args.rows.now c.args.inputs.now c.args.latches.now c.args.constraints.now c.args.bads.now c.args.outputs.now c.args.ends.now c.args.edges.now c.args.fairness.now c.args.counts in
-    coi_refused (graph) c.args.ids.now c.args.flags.now c.args.marks.now c.args.stack.now c.checked-answer.result
+    coi_refused graph c.args.ids.now c.args.flags.now c.args.marks.now c.args.stack.now c.checked-answer.result
     c.checked-answer.ensures c.is_bad_sizes.ensures c.if-is_bad_sizes.false c.clear.ensures c.is_done.ensures c.if-not-is_done.true-raw
 
 pub slice_bounds-write-end : goal.slice_bounds-write-end
@@ -57,6 +57,6 @@ write-requires c = record { coi_ready = (known (goal.at.write-requires c).Else-n
 pub returns : goal.returns
 returns c =
     let graph = lent c.args.rows.now c.args.inputs.now c.args.latches.now c.args.constraints.now c.args.bads.now c.args.outputs.now c.args.ends.now c.args.edges.now c.args.fairness.now c.args.counts in
-    coi_done (graph) c.args.ids.now c.args.flags.now c.args.marks.now c.args.stack.now c.checked-answer.result
+    coi_done graph c.args.ids.now c.args.flags.now c.args.marks.now c.args.stack.now c.checked-answer.result
     c.checked-answer.ensures c.is_bad_sizes.ensures c.if-is_bad_sizes.false c.clear.ensures c.is_done.ensures c.if-not-is_done.false-raw
     c.write.ensures.flags_after c.write.ensures.marks_after c.write.ensures.stack_after

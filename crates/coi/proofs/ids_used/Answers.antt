@@ -13,8 +13,8 @@ use Rattle.coi.proofs.ids_used.Goals as goal
 pub loop-k-init : goal.loop-k-init
 loop-k-init c = (search rules, refl)
 
--- ?? overflow-cast-if1
--- cast-if1 c = omega (arith, c.shared-slice-known.given c.before.before.loop.k)
+pub overflow_cast-ids : goal.overflow_cast-ids
+overflow_cast-ids c = omega (arith, c.type_inv.ids c.loop-k.k)
 
 pub returns-then-used-ids : goal.returns-then-used-ids
 returns-then-used-ids c = sym (every_stops _ _ _ c.loop-k-test.true (le-ltb _ _ c.if-used-ids.true)) ∙ c.loop-k.invariant.1

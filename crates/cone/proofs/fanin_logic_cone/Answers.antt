@@ -10,16 +10,16 @@ use Rattle.cone.proofs.fanin_logic_cone.Goals.{Else-not-is_done}
 -- the call is accepted
 known : (c : Else-not-is_done) →
     let graph = lent c.args.rows.now c.args.inputs.now c.args.latches.now c.args.constraints.now c.args.bads.now c.args.outputs.now c.args.ends.now c.args.edges.now c.args.fairness.now c.args.counts in
-    ConeReady (graph) c.args.roots.now c.args.flags.now
+    ConeReady graph c.args.roots.now c.args.flags.now
 known c =
     let graph = lent c.args.rows.now c.args.inputs.now c.args.latches.now c.args.constraints.now c.args.bads.now c.args.outputs.now c.args.ends.now c.args.edges.now c.args.fairness.now c.args.counts in
-    ready (graph) c.args.roots.now c.args.flags.now c.args.marks.now c.checked-answer.result c.checked-answer.ensures
+    ready graph c.args.roots.now c.args.flags.now c.args.marks.now c.checked-answer.result c.checked-answer.ensures
     c.is_done.ensures c.if-not-is_done.false-raw
 
 pub returns-then-not-is_done : goal.returns-then-not-is_done
 returns-then-not-is_done c =
     let graph = lent c.args.rows.now c.args.inputs.now c.args.latches.now c.args.constraints.now c.args.bads.now c.args.outputs.now c.args.ends.now c.args.edges.now c.args.fairness.now c.args.counts in
-    cone_refused (graph) c.args.roots.now c.args.flags.now c.args.marks.now c.checked-answer.result c.checked-answer.ensures
+    cone_refused graph c.args.roots.now c.args.flags.now c.args.marks.now c.checked-answer.result c.checked-answer.ensures
     c.is_done.ensures c.if-not-is_done.true-raw
 
 pub slice_bounds-write-end : goal.slice_bounds-write-end
@@ -34,5 +34,5 @@ write-requires c = record { flags_in_bounds = omega (arith, (known (goal.at.writ
 pub returns : goal.returns
 returns c =
     let graph = lent c.args.rows.now c.args.inputs.now c.args.latches.now c.args.constraints.now c.args.bads.now c.args.outputs.now c.args.ends.now c.args.edges.now c.args.fairness.now c.args.counts in
-    cone_done (graph) c.args.roots.now c.args.flags.now c.args.marks.now c.checked-answer.result c.checked-answer.ensures
+    cone_done graph c.args.roots.now c.args.flags.now c.args.marks.now c.checked-answer.result c.checked-answer.ensures
     c.is_done.ensures c.if-not-is_done.false-raw c.write.ensures

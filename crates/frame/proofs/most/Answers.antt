@@ -32,17 +32,14 @@ new_leaves-leaves-requires c =
     let k = c.start_map.auto.map ∙ part_long a.counts2.rows a.marks.now h in
     rw (map_part a.counts2.rows a.marks.now h c.start_map.new.map k, k) (p.1.1.0.1, p.1.0.rows)
 
--- ?? overflow-add-t17
--- add-t17 c =
---     let at-new-leaves = c.before.before.before.before.before.before in
---     let at-start-map = at-new-leaves.before.before.before.before in
---     let back15 = at-start-map.before.before.before.before.before in
---     let a = back15.args in
---     let p = back15.requires in
---     let h = p.1.1.0.2 in
---     let k = at-start-map.start-map.auto.1.1.0 ∙ part_long a.counts2.rows a.marks.now h in
---     let w = leaves_few a.rows2.now a.counts2.rows (map_part a.counts2.rows a.marks.now h at-start-map.start-map.new.1.1.0 k) k at-new-leaves.new-leaves.ensures in
---     omega (arith, w, p.0.inputs, p.1.0.rows)
+pub overflow_add-counts-2 : goal.overflow_add-counts-2
+overflow_add-counts-2 c =
+    let a = c.args in
+    let p = (c.requires.addable, c.requires.addable_2, c.requires.rows_nonzero, c.requires.latches_within) in
+    let h = p.1.1.0.2 in
+    let k = c.start_map.auto.map ∙ part_long a.counts2.rows a.marks.now h in
+    let w = leaves_few a.rows2.now a.counts2.rows (map_part a.counts2.rows a.marks.now h c.start_map.new.map k) k c.new_leaves-leaves.ensures in
+    omega (arith, w, p.0.inputs, p.1.0.rows)
 
 pub returns : goal.returns
 returns c =

@@ -4,27 +4,23 @@ use mathlib.Core.Path.{refl}
 use Rattle.frame.specs.Frame.{raised}
 use Rattle.frame.proofs.raised.Goals as goal
 
--- ?? overflow-add-t4
--- add-t4 c = omega (arith, c.before.before.requires.0.constraints, c.before.before.requires.1.constraints)
+pub overflow_add-result : goal.overflow_add-result
+overflow_add-result c = omega (arith, c.requires.addable.constraints, c.requires.addable_2.constraints)
 
--- ?? overflow-add-t5
--- add-t5 c = omega (arith, c.before.before.before.before.requires.0.bads, c.before.before.before.before.requires.1.bads)
+pub overflow_add-result-2 : goal.overflow_add-result-2
+overflow_add-result-2 c = omega (arith, c.requires.addable.bads, c.requires.addable_2.bads)
 
--- ?? overflow-add-t6
--- add-t6 c = omega (arith, c.before.before.before.before.before.before.requires.0.outputs, c.before.before.before.before.before.before.requires.1.outputs)
+pub overflow_add-result-3 : goal.overflow_add-result-3
+overflow_add-result-3 c = omega (arith, c.requires.addable.outputs, c.requires.addable_2.outputs)
 
--- ?? overflow-add-t7
--- add-t7 c = omega (arith, c.before.before.before.before.before.before.before.before.requires.0.sets, c.before.before.before.before.before.before.before.before.requires.1.sets)
+pub overflow_add-result-4 : goal.overflow_add-result-4
+overflow_add-result-4 c = omega (arith, c.requires.addable.sets, c.requires.addable_2.sets)
 
--- ?? overflow-add-t8
--- add-t8 c =
---     let back10 = c.before.before.before.before.before.before.before.before.before.before in
---     omega (arith, back10.requires.0.edges, back10.requires.1.edges)
+pub overflow_add-result-5 : goal.overflow_add-result-5
+overflow_add-result-5 c = omega (arith, c.requires.addable.edges, c.requires.addable_2.edges)
 
--- ?? overflow-add-t9
--- add-t9 c =
---     let back12 = c.before.before.before.before.before.before.before.before.before.before.before.before in
---     omega (arith, back12.requires.0.fairness, back12.requires.1.fairness)
+pub overflow_add-result-6 : goal.overflow_add-result-6
+overflow_add-result-6 c = omega (arith, c.requires.addable.fairness, c.requires.addable_2.fairness)
 
 pub returns : goal.returns
 unfolding raised

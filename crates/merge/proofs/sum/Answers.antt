@@ -5,30 +5,20 @@ use Rattle.merge.specs.Merge.{summed}
 use borrow.Author.Rules.{rules}
 use Rattle.merge.proofs.sum.Goals as goal
 
--- ?? overflow-add-t8
--- add-t8 c =
---     let start = c.before.before.before.before.before.before.before.before.before.before in
---     omega (arith, start.requires.0.bads, start.requires.1.bads)
+pub overflow_add-result-5 : goal.overflow_add-result-5
+overflow_add-result-5 c = omega (arith, c.requires.addable.bads, c.requires.addable_2.bads)
 
--- ?? overflow-add-t9
--- add-t9 c =
---     let start = c.before.before.before.before.before.before.before.before.before.before.before.before in
---     omega (arith, start.requires.0.outputs, start.requires.1.outputs)
+pub overflow_add-result-6 : goal.overflow_add-result-6
+overflow_add-result-6 c = omega (arith, c.requires.addable.outputs, c.requires.addable_2.outputs)
 
--- ?? overflow-add-t10
--- add-t10 c =
---     let start = c.before.before.before.before.before.before.before.before.before.before.before.before.before.before in
---     omega (arith, start.requires.0.sets, start.requires.1.sets)
+pub overflow_add-result-7 : goal.overflow_add-result-7
+overflow_add-result-7 c = omega (arith, c.requires.addable.sets, c.requires.addable_2.sets)
 
--- ?? overflow-add-t11
--- add-t11 c =
---     let start = c.before.before.before.before.before.before.before.before.before.before.before.before.before.before.before.before in
---     omega (arith, start.requires.0.edges, start.requires.1.edges)
+pub overflow_add-result-8 : goal.overflow_add-result-8
+overflow_add-result-8 c = omega (arith, c.requires.addable.edges, c.requires.addable_2.edges)
 
--- ?? overflow-add-t12
--- add-t12 c =
---     let start = c.before.before.before.before.before.before.before.before.before.before.before.before.before.before.before.before.before.before in
---     omega (arith, start.requires.0.fairness, start.requires.1.fairness)
+pub overflow_add-result-9 : goal.overflow_add-result-9
+overflow_add-result-9 c = omega (arith, c.requires.addable.fairness, c.requires.addable_2.fairness)
 
 pub returns : goal.returns
 unfolding summed

@@ -15,14 +15,14 @@ pub loop-j-init : goal.loop-j-init
 unfolding written
 loop-j-init c = (search rules, refl, refl)
 
--- ?? overflow-mul-moved
--- mul-moved c = omega (arith, c.before.before.before.before.requires.has)
+pub offset_bounds-list-j : goal.offset_bounds-list-j
+offset_bounds-list-j c = omega (arith, c.requires.has)
 
 pub bounds-list-j : goal.bounds-list-j
 bounds-list-j c = omega (arith, c.requires.has)
 
--- ?? overflow-cast-moved
--- cast-moved c = omega (arith, c.before.before.before.before.before.requires.small)
+pub overflow_cast-by : goal.overflow_cast-by
+overflow_cast-by c = omega (arith, c.requires.small)
 
 pub moved-requires : goal.moved-requires
 moved-requires c = c.requires.movable c.loop-j.j c.loop-j-test.true
@@ -30,8 +30,8 @@ moved-requires c = c.requires.movable c.loop-j.j c.loop-j-test.true
 pub overflow_add-out : goal.overflow_add-out
 overflow_add-out c = omega (arith, c.requires.room)
 
--- ?? overflow-mul-out
--- mul-out c = omega (arith, c.before.before.before.before.before.before.requires.room)
+pub offset_bounds-out-at : goal.offset_bounds-out-at
+offset_bounds-out-at c = omega (arith, c.requires.room)
 
 pub bounds-out-at : goal.bounds-out-at
 bounds-out-at c = omega (arith, c.requires.room)

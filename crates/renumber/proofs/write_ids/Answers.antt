@@ -14,8 +14,8 @@ pub loop-j-init : goal.loop-j-init
 unfolding written
 loop-j-init c = (search rules, refl, refl)
 
--- ?? overflow-mul-out
--- mul-out c = omega (arith, c.before.before.requires.has)
+pub offset_bounds-list-j : goal.offset_bounds-list-j
+offset_bounds-list-j c = omega (arith, c.requires.has)
 
 pub bounds-list-j : goal.bounds-list-j
 bounds-list-j c = omega (arith, c.requires.has)
@@ -23,8 +23,8 @@ bounds-list-j c = omega (arith, c.requires.has)
 pub overflow_cast-out : goal.overflow_cast-out
 overflow_cast-out c = omega (arith, c.type_inv.list c.loop-j.j)
 
--- ?? overflow-mul-out-2
--- mul-out-2 c = omega (arith, c.shared-slice-known.given c.before.before.loop.j)
+pub offset_bounds-map-list : goal.offset_bounds-map-list
+offset_bounds-map-list c = omega (arith, c.type_inv.list c.loop-j.j)
 
 pub bounds-map-list : goal.bounds-map-list
 bounds-map-list c = (c.requires.known c.loop-j.j c.loop-j-test.true).has
@@ -32,8 +32,8 @@ bounds-map-list c = (c.requires.known c.loop-j.j c.loop-j-test.true).has
 pub overflow_add-out : goal.overflow_add-out
 overflow_add-out c = omega (arith, c.requires.room)
 
--- ?? overflow-mul-out-3
--- mul-out-3 c = omega (arith, c.before.before.before.before.requires.room)
+pub offset_bounds-out-at : goal.offset_bounds-out-at
+offset_bounds-out-at c = omega (arith, c.requires.room)
 
 pub bounds-out-at : goal.bounds-out-at
 bounds-out-at c = omega (arith, c.requires.room)

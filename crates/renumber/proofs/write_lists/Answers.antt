@@ -16,11 +16,8 @@ write_edges-requires-2 c = c.requires.lists_ready.bads
 pub write_edges-requires-3 : goal.write_edges-requires-3
 write_edges-requires-3 c = c.requires.lists_ready.outputs
 
--- ?? overflow-cast-write-ends
--- cast-write-ends c =
---     let start = c.before.before.before.before.before.before.before.before.before.before.before.before.before.before.before.before.before.before.before.before in
---     let start = start.before.before.before.before.before.before.before.before.before.before.before.before.before in
---     omega (arith, start.requires.0)
+pub overflow_cast-at : goal.overflow_cast-at
+overflow_cast-at c = omega (arith, c.requires.edges_bound)
 
 pub write_ends-requires : goal.write_ends-requires
 write_ends-requires c = c.requires.lists_ready.ends

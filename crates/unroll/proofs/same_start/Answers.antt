@@ -8,8 +8,8 @@ returns-then-not-counts2-counts c =
     let a = c.args in
     start_short a.rows.now a.latches.now a.counts a.rows2.now a.latches2.now a.counts2 c.if-not-counts2-counts.true-raw
 
--- ?? overflow-mul-same-words
--- mul-same-words c = omega (arith, c.before.before.before.before.before.before.before.before.before.before.requires.0.2)
+pub overflow_mul-counts2 : goal.overflow_mul-counts2
+overflow_mul-counts2 c = omega (arith, c.requires.rows_in_bounds.2)
 
 pub same_words-requires : goal.same_words-requires
 same_words-requires c =

@@ -56,13 +56,8 @@ returns-then-not-step c =
           c.loop-j.edges c.loop-j.fairness c.loop-j.at) c.loop-j.j c.loop-j.invariant c.loop-j-test.true c.add_frame-step.ensures;
     }
 
--- ?? overflow-add-j
--- add-j c =
---     let at-loop-test = c.before.before.before.before.before.before.before.before.before.before.before.before.before.before.before.before.before.before.before.before in
---     let at-loop-test = at-loop-test.before.before.before.before.before.before.before.before.before.before.before.before.before.before in
---     let start = at-loop-test.before.before.before.before.before.before.before.before.before.before.before.before.before.before.before.before.before.before.before.before in
---     let start = start.before in
---     omega (arith, at-loop-test.loop-test.true, start.well_formed.1.1.1.1.1.1.1.1.1.1.1.1.1.1.1.1.1.1.1.1.0)
+pub overflow_step-j : goal.overflow_step-j
+overflow_step-j c = omega (arith, c.loop-j-test.true, c.well_formed.1.1.1.1.1.1.1.1.1.1.1.1.1.1.1.1.1.1.1.1.0)
 
 pub loop-j-smaller : goal.loop-j-smaller
 loop-j-smaller c = omega (arith, c.loop-j-test.true)

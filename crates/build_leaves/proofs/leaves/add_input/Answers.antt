@@ -20,14 +20,14 @@ returns-then-not-is_done c =
     add_refused c.args.rows.now c.args.inputs.now c.args.counts _ c.input_answer-answer.ensures c.is_done.ensures
     c.if-not-is_done.true-raw _ c.not_added.ensures
 
--- ?? overflow-mul-inputs
--- mul-inputs c = omega (arith, (room c).entry)
+pub offset_bounds-inputs-n : goal.offset_bounds-inputs-n
+offset_bounds-inputs-n c = omega (arith, (room (goal.at.offset_bounds-inputs-n c).Else-not-is_done).entry)
 
 pub bounds-inputs-n : goal.bounds-inputs-n
 bounds-inputs-n c = omega (arith, (room (goal.at.bounds-inputs-n c).Else-not-is_done).entry)
 
--- ?? overflow-add-was-added
--- add-was-added c = omega (arith, (room c).entry)
+pub overflow_add-n : goal.overflow_add-n
+overflow_add-n c = omega (arith, (room (goal.at.overflow_add-n c).Else-not-is_done).entry)
 
 pub returns : goal.returns
 unfolding add_input_call

@@ -18,7 +18,10 @@ judged c = rw (← c.free_row.ensures) c.input_answer-answer.ensures
 
 room : (c : Else-not-is_done) →
     Fits c.args.counts (length c.args.inputs.now) (c.args.counts.inputs + 1)
-room c = input_fits _ _ c.args.counts _ _ (test_done (judged (?at After-input_answer-answer)) c.is_done.ensures c.if-not-is_done.false-raw)
+room c =
+    let judged : told c.input_answer-answer.result ≡ input_answer c.args.rows.now c.args.inputs.now c.args.counts true (free_row c.args.rows.now c.args.counts.rows) =
+        rw (← c.free_row.ensures) c.input_answer-answer.ensures in
+    input_fits _ _ c.args.counts _ _ (test_done judged c.is_done.ensures c.if-not-is_done.false-raw)
 
 pub returns-then-not-is_done : goal.returns-then-not-is_done
 unfolding new_input_call
@@ -32,20 +35,20 @@ add_row-requires c = omega (arith, (room (goal.at.add_row-requires c).Else-not-i
 pub overflow_cast-inputs : goal.overflow_cast-inputs
 overflow_cast-inputs c = omega (arith, (room (goal.at.overflow_cast-inputs c).Else-not-is_done).rows)
 
--- ?? overflow-mul-inputs
--- mul-inputs c = omega (arith, (room c.before.before.before.before).entry)
+pub offset_bounds-inputs-n : goal.offset_bounds-inputs-n
+offset_bounds-inputs-n c = omega (arith, (room (goal.at.offset_bounds-inputs-n c).Else-not-is_done).entry)
 
 pub bounds-inputs-n : goal.bounds-inputs-n
 bounds-inputs-n c = omega (arith, (room (goal.at.bounds-inputs-n c).Else-not-is_done).entry)
 
--- ?? overflow-add-was-added
--- add-was-added c = omega (arith, (room c.before.before.before.before).rows)
+pub overflow_add-used : goal.overflow_add-used
+overflow_add-used c = omega (arith, (room (goal.at.overflow_add-used c).Else-not-is_done).rows)
 
--- ?? overflow-add-was-added-2
--- add-was-added-2 c = omega (arith, (room c.before.before.before.before).entry)
+pub overflow_add-n : goal.overflow_add-n
+overflow_add-n c = omega (arith, (room (goal.at.overflow_add-n c).Else-not-is_done).entry)
 
--- ?? overflow-cast-was-added
--- cast-was-added c = omega (arith, (room c.before.before.before.before).rows)
+pub overflow_cast-used : goal.overflow_cast-used
+overflow_cast-used c = omega (arith, (room (goal.at.overflow_cast-used c).Else-not-is_done).rows)
 
 pub returns : goal.returns
 unfolding new_input_call

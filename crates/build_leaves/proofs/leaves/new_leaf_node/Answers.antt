@@ -18,7 +18,10 @@ unfolding leaf_answer
 judged c = rw (← c.rows_fit.ensures, ← c.free_row.ensures) c.answered-answer.ensures
 
 room : (c : Else-not-is_done) → c.args.counts.rows ≤ max_rows
-room c = leaf_fits c.args.rows.now c.args.counts.rows (test_done (judged (?at After-answered-answer)) c.is_done.ensures c.if-not-is_done.false-raw)
+unfolding leaf_answer
+room c =
+    let judged : told c.answered-answer.result ≡ leaf_answer c.args.rows.now c.args.counts.rows = rw (← c.rows_fit.ensures, ← c.free_row.ensures) c.answered-answer.ensures in
+    leaf_fits c.args.rows.now c.args.counts.rows (test_done judged c.is_done.ensures c.if-not-is_done.false-raw)
 
 pub returns-then-not-is_done : goal.returns-then-not-is_done
 unfolding leaf_call
@@ -29,11 +32,11 @@ returns-then-not-is_done c =
 pub add_row-requires : goal.add_row-requires
 add_row-requires c = omega (arith, room (goal.at.add_row-requires c).Else-not-is_done)
 
--- ?? overflow-add-was-added
--- add-was-added c = omega (arith, room c.before.before.before.before)
+pub overflow_add-used : goal.overflow_add-used
+overflow_add-used c = omega (arith, room (goal.at.overflow_add-used c).Else-not-is_done)
 
--- ?? overflow-cast-was-added
--- cast-was-added c = omega (arith, room c.before.before.before.before)
+pub overflow_cast-used : goal.overflow_cast-used
+overflow_cast-used c = omega (arith, room (goal.at.overflow_cast-used c).Else-not-is_done)
 
 pub returns : goal.returns
 unfolding leaf_call

@@ -13,8 +13,8 @@ use Rattle.coi.proofs.walk.drain.Goals as goal
 pub loop-count-init : goal.loop-count-init
 loop-count-init c = (refl, refl, c.requires.going, refl)
 
--- ?? overflow-mul-i
--- mul-i c = omega (arith, c.before.loop.invariant.2.room, stacked_long c.before.loop.stack c.before.loop.count, c.before.loop.invariant.1)
+pub offset_bounds-stack-count : goal.offset_bounds-stack-count
+offset_bounds-stack-count c = omega (arith, c.loop-count.invariant.2.room, stacked_long c.loop-count.stack c.loop-count.count, c.loop-count.invariant.1)
 
 pub bounds-stack-count : goal.bounds-stack-count
 bounds-stack-count c = omega (arith, c.loop-count.invariant.2.room, stacked_long c.loop-count.stack c.loop-count.count, c.loop-count.invariant.1)

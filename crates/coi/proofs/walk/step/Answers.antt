@@ -29,14 +29,14 @@ no_gate : (c : Else-is_gate) →
     gate_at c.args.rows.now c.args.i ≡ false
 no_gate c = sym c.is_gate.ensures ∙ c.if-is_gate.false
 
--- ?? overflow-cast-visit
--- cast-visit c = omega (arith, fanins c)
+pub overflow_cast-a : goal.overflow_cast-a
+overflow_cast-a c = omega (arith, fanins (goal.at.overflow_cast-a c).Then-is_gate)
 
 pub visit-n-requires : goal.visit-n-requires
 visit-n-requires c = record { j_in_bounds = omega (arith, fanins (goal.at.visit-n-requires c).Then-is_gate); going = c.requires.going }
 
--- ?? overflow-cast-visit-2
--- cast-visit-2 c = omega (arith, fanins c.before.before.before.before.before.before.before)
+pub overflow_cast-b : goal.overflow_cast-b
+overflow_cast-b c = omega (arith, fanins (goal.at.overflow_cast-b c).Then-is_gate)
 
 pub visit-requires : goal.visit-requires
 visit-requires c = rw (c.flags-1.given, c.stack-1.given) record { j_in_bounds = omega (arith, fanins (goal.at.visit-requires c).Then-is_gate); going = going_on _ _ _ c.visit-n.ensures (omega (arith, fanins (goal.at.visit-requires c).Then-is_gate)) c.requires.going }

@@ -16,8 +16,8 @@ room c =
 pub returns-then-flags-j-eq1 : goal.returns-then-flags-j-eq1
 returns-then-flags-j-eq1 c = seen_on c.args.j c.args.flags.now c.args.stack.now c.args.count c.if-flags-j-eq1.true
 
--- ?? overflow-mul-stack
--- mul-stack c = omega (arith, room c)
+pub offset_bounds-stack-count : goal.offset_bounds-stack-count
+offset_bounds-stack-count c = omega (arith, room (goal.at.offset_bounds-stack-count c).Else-flags-j-eq1)
 
 pub bounds-stack-count : goal.bounds-stack-count
 bounds-stack-count c = omega (arith, room (goal.at.bounds-stack-count c).Else-flags-j-eq1)

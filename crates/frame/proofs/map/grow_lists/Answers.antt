@@ -17,11 +17,8 @@ write_mapped-requires-2 c = let p = c.requires in record { n_in_bounds = omega (
 pub write_mapped-requires-3 : goal.write_mapped-requires-3
 write_mapped-requires-3 c = let p = c.requires in record { n_in_bounds = omega (arith, p.outputs); used_edges = p.used.outputs }
 
--- ?? overflow-cast-write-ends
--- cast-write-ends c =
---     let back33 = c.before.before.before.before.before.before.before.before.before.before.before.before.before.before.before.before.before.before.before.before in
---     let back33 = back33.before.before.before.before.before.before.before.before.before.before.before.before.before in
---     omega (arith, back33.requires.few)
+pub overflow_cast-at : goal.overflow_cast-at
+overflow_cast-at c = omega (arith, c.requires.few)
 
 pub write_ends-requires : goal.write_ends-requires
 write_ends-requires c =

@@ -14,8 +14,8 @@ pub loop-j-init : goal.loop-j-init
 unfolding written
 loop-j-init c = (search rules, refl, refl)
 
--- ?? overflow-mul-mapped
--- mul-mapped c = omega (arith, c.before.before.before.before.before.requires.1.has)
+pub offset_bounds-list-j : goal.offset_bounds-list-j
+offset_bounds-list-j c = omega (arith, c.requires.used_edges.has)
 
 pub bounds-list-j : goal.bounds-list-j
 bounds-list-j c = omega (arith, c.requires.used_edges.has)

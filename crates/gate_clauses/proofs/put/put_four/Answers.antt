@@ -6,7 +6,7 @@ use borrow.Author.Rules.{rules}
 use Rattle.gate_clauses.proofs.put.put_four.Goals as goal
 
 pub returns-then-clauses-end : goal.returns-then-clauses-end
-returns-then-clauses-end c = let a = c.args in record { place = refl; written = no_room_lem a.clauses.now a.at (words a.t3) (four_long a.t3 c.requires.four_value) c.if-clauses-end.true }
+returns-then-clauses-end c = let a = c.args in record { place = refl; written = no_room_lem a.clauses.now a.at (words a.four) (four_long a.four c.requires.four_value) c.if-clauses-end.true }
 
 pub returns : goal.returns
 returns c =

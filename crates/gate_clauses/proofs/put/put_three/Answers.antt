@@ -15,4 +15,4 @@ pub bounds-clauses-at-4 : goal.bounds-clauses-at-4
 bounds-clauses-at-4 c = simp length-set (omega arith)
 
 pub returns : goal.returns
-returns c = put_three c.args.clauses.now c.args.t3 c.args.at c.well_formed.1.1.0.1.0.1
+returns c = put_three c.args.clauses.now c.args.c c.args.at c.well_formed.1.1.0.1.0.1

@@ -11,10 +11,10 @@ use Rattle.graph.proofs.contents.check_contents.Goals.{Start}
 -- what the sizes of the graph give
 known : (c : Start) →
     let graph = lent c.args.rows.now c.args.inputs.now c.args.latches.now c.args.constraints.now c.args.bads.now c.args.outputs.now c.args.ends.now c.args.edges.now c.args.fairness.now c.args.counts in
-    Sized (graph) (length c.args.marks.now)
+    Sized graph (length c.args.marks.now)
 known c =
     let graph = lent c.args.rows.now c.args.inputs.now c.args.latches.now c.args.constraints.now c.args.bads.now c.args.outputs.now c.args.ends.now c.args.edges.now c.args.fairness.now c.args.counts in
-    sized (graph) (length c.args.marks.now) c.requires
+    sized graph (length c.args.marks.now) c.requires
 
 pub clear-requires : goal.clear-requires
 clear-requires c = (known (goal.at.clear-requires c).Start).marked

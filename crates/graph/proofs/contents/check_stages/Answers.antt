@@ -13,7 +13,7 @@ first_bad_row-requires c = omega (arith, c.requires.sized.rows.fit.within)
 pub returns-in-At : goal.returns-in-At
 returns-in-At c =
     let graph = lent c.args.rows.now c.args.inputs.now c.args.latches.now c.args.constraints.now c.args.bads.now c.args.outputs.now c.args.ends.now c.args.edges.now c.args.fairness.now c.args.counts in
-    record { result_value = sym (at_row (graph) (sym c.first_bad_row.ensures ∙ c.in-At.is)); marks_unchanged = refl }
+    record { result_value = sym (at_row graph (sym c.first_bad_row.ensures ∙ c.in-At.is)); marks_unchanged = refl }
 
 pub check_leaves-leaves-requires : goal.check_leaves-leaves-requires
 check_leaves-leaves-requires c = let s = c.requires.sized in record { rows_in_bounds = (omega (arith, s.rows.fit.within), s.inputs.within, omega (arith, s.latches.within), s.marked); marks = c.requires.marks }
@@ -23,7 +23,7 @@ returns-then-not-is_done c =
     let graph = lent c.args.rows.now c.args.inputs.now c.args.latches.now c.args.constraints.now c.args.bads.now c.args.outputs.now c.args.ends.now c.args.edges.now c.args.fairness.now c.args.counts in
     record {
       result_value = c.check_leaves-leaves.ensures.result_value ∙ sym
-          (at_leaves (graph) (sym c.first_bad_row.ensures ∙ c.in-Nothing.is)
+          (at_leaves graph (sym c.first_bad_row.ensures ∙ c.in-Nothing.is)
           (test_refused c.check_leaves-leaves.ensures.result_value c.is_done.ensures c.if-not-is_done.true-raw));
       marks_unchanged = c.check_leaves-leaves.ensures.marks_unchanged;
     }
@@ -36,7 +36,7 @@ returns c =
     let graph = lent c.args.rows.now c.args.inputs.now c.args.latches.now c.args.constraints.now c.args.bads.now c.args.outputs.now c.args.ends.now c.args.edges.now c.args.fairness.now c.args.counts in
     record {
       result_value = c.check_lists.ensures ∙ sym
-          (at_lists (graph) (sym c.first_bad_row.ensures ∙ c.in-Nothing.is)
+          (at_lists graph (sym c.first_bad_row.ensures ∙ c.in-Nothing.is)
           (test_done c.check_leaves-leaves.ensures.result_value c.is_done.ensures c.if-not-is_done.false-raw));
       marks_unchanged = c.check_leaves-leaves.ensures.marks_unchanged;
     }

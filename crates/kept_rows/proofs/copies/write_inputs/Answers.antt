@@ -17,8 +17,8 @@ loop-j-init c = (
       (word_put (ids_of (by c.args.map.now) c.args.inputs.now)) c.args.out.now,
 )
 
--- ?? overflow-mul-x
--- mul-x c = omega (arith, c.before.before.before.before.before.requires.there.has)
+pub offset_bounds-inputs-j : goal.offset_bounds-inputs-j
+offset_bounds-inputs-j c = omega (arith, c.requires.there.has)
 
 pub bounds-inputs-j : goal.bounds-inputs-j
 bounds-inputs-j c = omega (arith, c.requires.there.has)
@@ -29,14 +29,14 @@ overflow_cast-x c = omega (arith, c.type_inv.inputs c.loop-j.j)
 pub is_numbered-requires : goal.is_numbered-requires
 is_numbered-requires c = omega (arith, c.requires.there.there c.loop-j.j c.loop-j-test.true)
 
--- ?? overflow-mul-out
--- mul-out c = omega (arith, c.before.before.shared-slice-known3.given c.before.before.before.before.loop.j)
+pub offset_bounds-map-x : goal.offset_bounds-map-x
+offset_bounds-map-x c = omega (arith, c.type_inv.inputs c.loop-j.j)
 
 pub bounds-map-x : goal.bounds-map-x
 bounds-map-x c = omega (arith, c.requires.there.there c.loop-j.j c.loop-j-test.true)
 
--- ?? overflow-mul-out-2
--- mul-out-2 c = omega (arith, count_small _ _ c.before.before.before.before.before.loop.invariant.1.count)
+pub offset_bounds-out-k : goal.offset_bounds-out-k
+offset_bounds-out-k c = omega (arith, count_small _ _ c.loop-j.invariant.1.count)
 
 pub bounds-out-k : goal.bounds-out-k
 bounds-out-k c =

@@ -43,11 +43,8 @@ copy_row-requires c =
 pub overflow_cast-old : goal.overflow_cast-old
 overflow_cast-old c = omega (arith, count_small _ _ c.loop-i.invariant.1.count, c.requires.small)
 
--- ?? overflow-mul-old
--- mul-old c =
---     let at-loop = c.before.before.before.before.before.before.before in
---     let start = at-loop.before.before.before.before.before in
---     omega (arith, count_small _ _ at-loop.loop.invariant.1.count, start.requires.small)
+pub offset_bounds-old-k : goal.offset_bounds-old-k
+offset_bounds-old-k c = omega (arith, count_small _ _ c.loop-i.invariant.1.count, c.requires.small)
 
 pub bounds-old-k : goal.bounds-old-k
 bounds-old-k c =

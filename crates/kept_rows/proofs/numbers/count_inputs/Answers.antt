@@ -14,14 +14,14 @@ pub loop-j-init : goal.loop-j-init
 unfolding count_below
 loop-j-init c = (search rules, refl)
 
--- ?? overflow-mul-is-numbered
--- mul-is-numbered c = omega (arith, c.before.before.before.before.requires.has)
+pub offset_bounds-inputs-j : goal.offset_bounds-inputs-j
+offset_bounds-inputs-j c = omega (arith, c.requires.has)
 
 pub bounds-inputs-j : goal.bounds-inputs-j
 bounds-inputs-j c = omega (arith, c.requires.has)
 
--- ?? overflow-cast-is-numbered
--- cast-is-numbered c = omega (arith, c.shared-slice-known3.given c.before.before.loop.j)
+pub overflow_cast-inputs : goal.overflow_cast-inputs
+overflow_cast-inputs c = omega (arith, c.type_inv.inputs c.loop-j.j)
 
 pub is_numbered-requires : goal.is_numbered-requires
 is_numbered-requires c = omega (arith, c.requires.there c.loop-j.j c.loop-j-test.true)

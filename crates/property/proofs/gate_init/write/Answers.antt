@@ -13,7 +13,7 @@ any_gated-requires c = omega (arith, c.requires.steps.has)
 pub returns-then-not-any_gated : goal.returns-then-not-any_gated
 returns-then-not-any_gated c =
     let given = part c.args.rows.now c.args.latches.now c.args.constraints.now c.args.counts in
-    write_none (given) c.any_gated.ensures c.if-not-any_gated.true-raw
+    write_none given c.any_gated.ensures c.if-not-any_gated.true-raw
 
 pub overflow_cast-new : goal.overflow_cast-new
 overflow_cast-new c = omega (arith, c.requires.rows)
@@ -21,8 +21,8 @@ overflow_cast-new c = omega (arith, c.requires.rows)
 pub add_row-requires : goal.add_row-requires
 add_row-requires c = omega (arith, c.requires.rows)
 
--- ?? overflow-add-gate-steps
--- add-gate-steps c = omega (arith, c.before.before.before.before.before.before.before.before.before.before.before.requires.rows)
+pub overflow_add-used : goal.overflow_add-used
+overflow_add-used c = omega (arith, c.requires.rows)
 
 pub gate_steps-gated-requires : goal.gate_steps-gated-requires
 gate_steps-gated-requires c = c.requires.steps
@@ -33,7 +33,7 @@ take_inits-requires c = omega (arith, c.requires.steps.has)
 pub write_latch-requires : goal.write_latch-requires
 write_latch-requires c =
     let given = part c.args.rows.now c.args.latches.now c.args.constraints.now c.args.counts in
-    let r = write_room (given) c.any_gated.ensures c.if-not-any_gated.false-raw c.requires in
+    let r = write_room given c.any_gated.ensures c.if-not-any_gated.false-raw c.requires in
     omega (arith, r)
 
 pub counted-requires : goal.counted-requires
@@ -42,5 +42,5 @@ counted-requires c = omega (arith, c.requires.steps.limited)
 pub returns : goal.returns
 returns c =
     let given = part c.args.rows.now c.args.latches.now c.args.constraints.now c.args.counts in
-    write_done (given) c.any_gated.ensures c.if-not-any_gated.false-raw _ c.add_row.ensures c.gate_steps-gated.ensures
+    write_done given c.any_gated.ensures c.if-not-any_gated.false-raw _ c.add_row.ensures c.gate_steps-gated.ensures
     c.take_inits.ensures (c.write_latch.ensures ∙ ap (latch_set _ _) c.latch_of.ensures) c.counted.ensures

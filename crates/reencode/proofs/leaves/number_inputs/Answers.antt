@@ -19,17 +19,17 @@ overflow_add-marks c = omega (arith, c.requires.ids_marked.few)
 pub overflow_cast-marks : goal.overflow_cast-marks
 overflow_cast-marks c = omega (arith, c.requires.ids_marked.few)
 
--- ?? overflow-mul-marks
--- mul-marks c = omega (arith, c.before.before.requires.0)
+pub offset_bounds-inputs-j : goal.offset_bounds-inputs-j
+offset_bounds-inputs-j c = omega (arith, c.requires.n_in_bounds)
 
 pub bounds-inputs-j : goal.bounds-inputs-j
 bounds-inputs-j c = omega (arith, c.requires.n_in_bounds)
 
--- ?? overflow-cast-marks-2
--- cast-marks-2 c = omega (arith, c.shared-slice-known.given c.before.before.loop.j)
+pub overflow_cast-marks-in-loop-j : goal.overflow_cast-marks-in-loop-j
+overflow_cast-marks-in-loop-j c = omega (arith, c.type_inv.inputs c.loop-j.j)
 
--- ?? overflow-mul-marks-2
--- mul-marks-2 c = omega (arith, c.shared-slice-known.given c.before.before.loop.j)
+pub offset_bounds-marks-inputs : goal.offset_bounds-marks-inputs
+offset_bounds-marks-inputs c = omega (arith, c.type_inv.inputs c.loop-j.j)
 
 pub bounds-marks-inputs : goal.bounds-marks-inputs
 bounds-marks-inputs c = omega (arith, c.requires.ids_marked.marked c.loop-j.j c.loop-j-test.true, c.loop-j.invariant.1)
