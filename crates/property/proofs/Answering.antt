@@ -26,7 +26,7 @@ pub record Accepted (limits room : Bool) (g : Lent) (marks : ℕ) : Type 0 where
   pub limited : limits ≡ true
   pub sized : Sized g marks
   pub well_formed : WellFormed g
-  pub has_room_lem : room ≡ true
+  pub has_room : room ≡ true
 
 module _ (limits room : Bool) (g : Lent) (marks : List ℕ) where
   abbrev last : Given
@@ -52,7 +52,7 @@ module _ (limits room : Bool) (g : Lent) (marks : List ℕ) where
       go true e z =
           let t = none_of_two (check_call g marks).given last z in
           let s = (exact g marks).accepted t.0 in
-          record { limited = e; sized = s.0; well_formed = s.1; has_room_lem = fits room t.1 }
+          record { limited = e; sized = s.0; well_formed = s.1; has_room = fits room t.1 }
       go false e z = absurd (omega arith)
 
   pub change_accepts : Accepted limits room g (length marks) → (change_checked limits room g marks).given ≡ done

@@ -39,7 +39,7 @@ module _ (g : Lent) (old : List ℕ) (marks : ℕ) where
         limited = le-leb (length old) max_entries l.limited;
         sized = l.sized;
         well_formed = l.well_formed;
-        has_room_lem = both_true
+        has_room = both_true
             (both_true (le-leb (or_of g).used (rows_lent g.rows) l.rows) (lt-ltb 0 (length g.bads) l.one))
             (le-leb g.counts.bads (length old) l.back);
       }

@@ -88,7 +88,7 @@ module _ (g : Lent) (marks : List ℕ) where
   unfolding gate_init_call gate_init_checked
   accepts l =
       change_accepts true (gate_room (part_of g)) g marks
-      (record { limited = refl; sized = l.sized; well_formed = l.well_formed; has_room_lem = right_room g l.room })
+      (record { limited = refl; sized = l.sized; well_formed = l.well_formed; has_room = right_room g l.room })
 
   refused : ((gate_init_call g marks).given.number ≡ 0 → ⊥) → (gate_init_call g marks).graph ≡ g
   unfolding gate_init_call

@@ -9,6 +9,7 @@ use Rattle.graph.specs.Count.{count_below, gates_below}
 use Rattle.graph.proofs.Counting.{count_taken, count_left, count_small}
 use borrow.Author.Rules.{rules}
 use Rattle.cnf.proofs.gates_below.Goals as goal
+use Rattle.cnf.proofs.gates_below.Goals.{then-is_gate, else-is_gate}
 
 pub loop-i-init : goal.loop-i-init
 unfolding count_below
@@ -24,8 +25,10 @@ loop-i-preserved c =
     let l = c.loop-i in
     let gate = gate_at c.args.rows.now in (
       search rules,
-      ⊎_elim (λ w. count_taken gate l.i l.invariant.1 (sym c.is_gate.ensures ∙ w.0.taken) w.1)
-          (λ w. count_left gate l.i l.invariant.1 (sym c.is_gate.ensures ∙ w.0.left) w.1) c.if-is_gate.branch,
+      elim c.if-is_gate.branch [
+        then-is_gate w ↦ count_taken gate l.i l.invariant.1 (sym c.is_gate.ensures ∙ w.if-is_gate.true-raw) w.gates-is
+        | else-is_gate w ↦ count_left gate l.i l.invariant.1 (sym c.is_gate.ensures ∙ w.if-is_gate.false-raw) w.gates-is
+      ],
     )
 
 pub returns : goal.returns
