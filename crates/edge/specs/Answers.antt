@@ -44,17 +44,17 @@ answer_of t =
     (cond (eqb t.number 3) (BadEntry t.place t.index t.second)
     (cond (eqb t.number 4) BadArgument NoRoom))))
 
-answer_told : (r : Answer) → answer_of (told r) ≡ r
+answer_told_lem : (r : Answer) → answer_of (told r) ≡ r
 unfolding answer_of
-answer_told Done = refl
-answer_told BadSizes = refl
-answer_told (BadRow i) = refl
-answer_told (BadEntry l i s) = refl
-answer_told BadArgument = refl
-answer_told NoRoom = refl
+answer_told_lem Done = refl
+answer_told_lem BadSizes = refl
+answer_told_lem (BadRow i) = refl
+answer_told_lem (BadEntry l i s) = refl
+answer_told_lem BadArgument = refl
+answer_told_lem NoRoom = refl
 
 pub told_injective : (r s : Answer) → told r ≡ told s → r ≡ s
-told_injective r s e = sym (answer_told r) ∙ (ap answer_of e ∙ answer_told s)
+told_injective r s e = sym (answer_told_lem r) ∙ (ap answer_of e ∙ answer_told_lem s)
 
 -- the first answer, unless it is done: then the second
 unfoldable pub or_else : Given → Given → Given

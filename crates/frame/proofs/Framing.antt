@@ -13,7 +13,7 @@ use Rattle.edge.proofs.Tests.{both, either}
 use Rattle.rows.specs.Sizes.{max_rows}
 use Rattle.rows.specs.Rows.{false_word, none, word0, word1, is_false_row, is_leaf, is_gate, is_row, row_at, gate_at}
 use Rattle.gates.specs.Gates.{State, add_and, leaf_added}
-use Rattle.gates.proofs.Building.{row_long as row-added-long, and_sized, and_like}
+use Rattle.gates.proofs.Building.{row_long as row_added_long, and_sized, and_like}
 use Rattle.graph.specs.declared.Counts.{Counts}
 use Rattle.frame.specs.Map.{mapped, start_map}
 use Rattle.frame.specs.Frame.{Frame, frame, gate_placed, leaf_placed, frame_row, frame_rows, frame_of}
@@ -90,7 +90,7 @@ module _ (from : List ℕ) (i : ℕ) (s : Frame) where
             most = omega arith;
             listed_more = omega arith;
             listed_most = omega arith;
-            rows_long = row-added-long s.rows s.used none 0;
+            rows_long = row_added_long s.rows s.used none 0;
             inputs_long = length-set s.inputs s.listed s.used;
             map_long = length-set s.map i (2 * s.used);
           }

@@ -10,7 +10,7 @@ ghost use Rattle.graph.specs.Graph.{lent};
 ghost use Rattle.graph.specs.Check.{cleared};
 ghost use Rattle.output.specs.Room.{fits_in};
 ghost use Rattle.frame.specs.Steps.{LatchesWithin};
-ghost use Rattle.frame.specs.Frame.{raised as raisedBy, framed};
+ghost use Rattle.frame.specs.Frame.{raised as raised_by, framed};
 ghost use Rattle.frame.specs.Steps.{need_of, most_of};
 ghost use Rattle.frame.specs.Steps.{Addable, Bounded, FrameRoom};
 ghost use Rattle.frame.specs.Call.{FrameReady, frame_seen, frame_call};
@@ -32,7 +32,7 @@ pub struct Framed {
 fn raised(at: Counts, n: Counts, reached: Reached) -> Counts
     requires addable { Addable at }
     requires addable_2 { Addable n }
-    ensures { result ≡ raisedBy at n reached.used reached.inputs }
+    ensures { result ≡ raised_by at n reached.used reached.inputs }
 {
     Counts {
         rows: reached.used,

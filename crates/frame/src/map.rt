@@ -7,7 +7,7 @@ ghost use Rattle.graph.specs.Latches.{latch_words};
 ghost use Rattle.output.specs.Writing.{written};
 ghost use Rattle.renumber.specs.Renumber.{lists};
 ghost use Rattle.renumber.specs.Steps.{UsedEdges};
-ghost use Rattle.frame.specs.Map.{mapped as mappedBy, start_map, mapped_of, nexts_set, lists_grown};
+ghost use Rattle.frame.specs.Map.{mapped as mapped_by, start_map, mapped_of, nexts_set, lists_grown};
 ghost use Rattle.frame.specs.Steps.{LatchesWithin, NextsUsed, ListsReady};
 ghost use Rattle.frame.specs.Steps.{new_leaves};
 
@@ -56,7 +56,7 @@ pub fn new_leaves(from: &[u32], map: &[u32]) -> usize
 // The edge that stands for an edge of `from`.
 pub fn mapped(map: &[u32], e: u32) -> u32
     requires { id_of e < length map.now }
-    ensures { result ≡ mappedBy map.now e }
+    ensures { result ≡ mapped_by map.now e }
 {
     edge::not_if(map[(e / 2) as usize], edge::compl(e))
 }

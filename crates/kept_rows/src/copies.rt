@@ -1,6 +1,6 @@
 // Kept rows and kept inputs are written in order, each at the next place.
 ghost use Rattle.std.specs.Prelude.{◌≡◌, cond};
-ghost use Rattle.renumber.specs.Renumber.{renamed as renamedBy, by};
+ghost use Rattle.renumber.specs.Renumber.{renamed as renamed_by, by};
 ghost use Rattle.kept_rows.specs.Keeping.{numbered};
 ghost use Rattle.kept_rows.specs.Copying.{row_put, rows_kept, inputs_kept, old_kept};
 ghost use Rattle.kept_rows.specs.Steps.{WordReady, RowReady, RowsReady, KeptReady};
@@ -12,7 +12,7 @@ use rows::kinds::is_gate;
 // A word of a row: one of a gate is an edge, and one of another row stays.
 fn row_word(gate: bool, w: u32, map: &[u32]) -> u32
     requires { WordReady gate w map.now }
-    ensures { result ≡ cond gate (renamedBy (by map.now) w) w }
+    ensures { result ≡ cond gate (renamed_by (by map.now) w) w }
 {
     if gate {
         return renamed_edge(w, map);

@@ -16,7 +16,7 @@ use Rattle.graph.specs.Latches.{latches_lent}
 use Rattle.graph.specs.Graph.{Lent}
 use Rattle.gates.specs.Gates.{leaf_added}
 use Rattle.graph.specs.Count.{count_below}
-use Rattle.graph.proofs.Counting.{count_past, count_none, Counted, counted as counted-at}
+use Rattle.graph.proofs.Counting.{count_past, count_none, Counted, counted as counted_at}
 use Rattle.property.specs.GateInit.{Part, part_of, with_part, gated_all, gated_part, none_gated, gate_init, gate_room, gate_init_checked, gate_init_call}
 use Rattle.property.specs.GateInitMeaning.{gated_at, GateRoom, GateInitLent, place_of, GateInitRight}
 use Rattle.property.proofs.Answering.{change_answers, change_accepts}
@@ -45,7 +45,7 @@ module _ (g : Lent) where
   gated_latch : none_gated p ≡ false → Counted (gated_at g) g.counts.latches 0
   gated_latch e =
       let d = eqb-false (gated_all p).count g.counts.constraints e in
-      counted-at (gated_at g) g.counts.latches 0
+      counted_at (gated_at g) g.counts.latches 0
       (⊎_elim (λ (l : 0 < count_below (gated_at g) g.counts.latches). l) (λ (h : count_below (gated_at g) g.counts.latches ≤ 0). absurd (d (omega (arith, count_is))))
       (lt_or_le 0 (count_below (gated_at g) g.counts.latches)))
 

@@ -32,7 +32,7 @@ use Rattle.build_leaves.proofs.Keeping.{keeps}
 use Rattle.build_leaves.proofs.Meaning.{leaf_grows, leaf_made}
 use Rattle.build_leaves.proofs.Graphs.{rows_stay, listed_used}
 use Rattle.build_latches.proofs.Graphs.{latch_stays}
-use Rattle.graph.proofs.Counting.{count_past, Counted, counted as counted-at}
+use Rattle.graph.proofs.Counting.{count_past, Counted, counted as counted_at}
 use Rattle.graph.proofs.Latches.{latch_set_length, latch_kept, latch_set_at, same_inputs}
 use Rattle.property.specs.GateInit.{Gating, gating, gate_steps, initless, inits_taken, part_of, with_part, gated_all, gated_counts, new_latch, gated_part}
 use Rattle.property.specs.GateInitMeaning.{gated_at, GateRoom, place_of, StartsAt, equal, Constrained}
@@ -136,7 +136,7 @@ module _ (g : Lent) (marks : ℕ) (z : Sized g marks) (w : WellFormed g) (room :
 
   -- a new constraint is one for a latch
   abbrev new_at : (k : ℕ) → at ≤ k → k < s.count → Counted (gated_at g) n (k - at)
-  new_at k h l = counted-at (gated_at g) n (k - at) (omega (arith, m.count))
+  new_at k h l = counted_at (gated_at g) n (k - at) (omega (arith, m.count))
 
   new_holds : (leaf : ℕ → Bool) → ((i : ℕ) → i < n → gated_at g i ≡ true → not (leaf used) || equal (leaf (latch_at g.latches i).input) (value_in g leaf (latch_at g.latches i).init) ≡ true)
       → (k : ℕ) → at ≤ k → k < s.count → edge_value (value s.rows leaf) (get_or s.constraints k 0) ≡ true

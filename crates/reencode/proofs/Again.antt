@@ -20,7 +20,7 @@ use Rattle.graph.specs.Leaves.{member}
 use Rattle.graph.specs.Graph.{Lent, Sized}
 use Rattle.graph.specs.WellFormed.{listed, WellFormed}
 use Rattle.graph.proofs.Listed.{is_member}
-use Rattle.gates.specs.Gates.{Sorted, first as firstEdge, second as secondEdge}
+use Rattle.gates.specs.Gates.{Sorted, first as first_edge, second as second_edge}
 use Rattle.gates.proofs.Ordering.{ordered}
 use Rattle.renumber.specs.Renumber.{renamed, renamed_latch}
 use Rattle.output.specs.Room.{Limited, Room}
@@ -125,7 +125,7 @@ module _ (g out : Lent) (marks : ℕ) (s : Sized g marks) (w : WellFormed g) (no
         let y = edge_kept (word1 rows r) (omega (arith, b.1)) in
         let t = (ordered (word0 rows r) (word1 rows r)).stay o in
         let row = result.gate_is new out' used new_sized new_formed no_orphan_lem room' limited' r l h in
-        (ap (word0 last.rows) (sym (kept r l)) ∙ (row.first ∙ (ap₂ firstEdge x y ∙ t.0)), ap (word1 last.rows) (sym (kept r l)) ∙ (row.second ∙ (ap₂ secondEdge x y ∙ t.1)))
+        (ap (word0 last.rows) (sym (kept r l)) ∙ (row.first ∙ (ap₂ first_edge x y ∙ t.0)), ap (word1 last.rows) (sym (kept r l)) ∙ (row.second ∙ (ap₂ second_edge x y ∙ t.1)))
 
     leaf_kept : (i : ℕ) → i < g.counts.inputs + g.counts.latches → (word0 last.rows (i + 1) ≡ word0 rows (i + 1)) × (word1 last.rows (i + 1) ≡ word1 rows (i + 1))
     unfolding reencoded

@@ -18,7 +18,7 @@ use Rattle.gates.specs.Gates.{add_gate}
 use Rattle.renumber.specs.Renumber.{renamed, by}
 use Rattle.renumber.specs.Steps.{MarksHold, Small}
 use Rattle.graph.proofs.Counting.{count_more, count_rises}
-use Rattle.renumber.proofs.Mapping.{renamed_by, known}
+use Rattle.renumber.proofs.Mapping.{renamed_by_lem, known}
 use Rattle.graph.specs.Count.{gates_below}
 use Rattle.reencode.specs.Numbers.{numbered}
 use Rattle.reencode.specs.Rebuilding.{gate_added, gates_added}
@@ -55,7 +55,7 @@ gate_same m map rows i k out h = go (gate_at rows i) refl
         → cond t (add_gate out k (renamed (by map) (word0 rows i)) (renamed (by map) (word1 rows i))).rows out ≡ cond t (add_gate out k (renamed m (word0 rows i)) (renamed m (word1 rows i))).rows out
     go true e =
         let b = gate_below i (word0 rows i) (word1 rows i) e in
-        rw (renamed_by i m map h (word0 rows i) (inr b.0), renamed_by i m map h (word1 rows i) (inr b.1))
+        rw (renamed_by_lem i m map h (word0 rows i) (inr b.0), renamed_by_lem i m map h (word1 rows i) (inr b.1))
     go false e = refl
 
 -- ---- halfway: the rows below i have their numbers, and the marks of the others are as they were

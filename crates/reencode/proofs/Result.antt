@@ -19,7 +19,7 @@ use Rattle.graph.specs.Latches.{latch_at}
 use Rattle.graph.specs.Graph.{Lent, Sized, no_counts}
 use Rattle.graph.specs.WellFormed.{listed, WellFormed}
 use Rattle.graph.proofs.Listed.{all_long, input_at, latch_at_lem}
-use Rattle.gates.specs.Gates.{Sorted, first as firstEdge, second as secondEdge}
+use Rattle.gates.specs.Gates.{Sorted, first as first_edge, second as second_edge}
 use Rattle.gates.proofs.Ordering.{ordered, order_used}
 use Rattle.gates.proofs.Growing.{is_gate_lem}
 use Rattle.renumber.specs.Renumber.{renamed, renamed_latch, ids_of, edges_of, ends_of, lists_of, renumber}
@@ -106,7 +106,7 @@ module _ (g out : Lent) (marks : ℕ) (s : Sized g marks) (w : WellFormed g) (no
   leaf_is i l = below_stands m g.rows first (leaves_added out.rows leaves) used (i + 1) none 0 all_room (omega arith) (leaf_stands out.rows leaves i start_room l)
 
   pub gate_is : (i : ℕ) → i < used → gate_at g.rows i ≡ true
-      → Row rows (m i) (firstEdge (renamed m (word0 g.rows i)) (renamed m (word1 g.rows i))) (secondEdge (renamed m (word0 g.rows i)) (renamed m (word1 g.rows i)))
+      → Row rows (m i) (first_edge (renamed m (word0 g.rows i)) (renamed m (word1 g.rows i))) (second_edge (renamed m (word0 g.rows i)) (renamed m (word1 g.rows i)))
   unfolding rows_of
   gate_is i l h = rw (new_gate g marks s w i h) (gate_stands m g.rows first (leaves_added out.rows leaves) used i all_room l h)
 
@@ -130,7 +130,7 @@ module _ (g out : Lent) (marks : ℕ) (s : Sized g marks) (w : WellFormed g) (no
       let x : id_of (renamed m (word0 g.rows i)) < m i = rw (edge_row (word0 g.rows i) (omega (arith, b.0))) (new_below g marks s w no (id_of (word0 g.rows i)) i b.0 l h) in
       let y : id_of (renamed m (word1 g.rows i)) < m i = rw (edge_row (word1 g.rows i) (omega (arith, b.1))) (new_below g marks s w no (id_of (word1 g.rows i)) i b.1 l h) in
       let o = order_used (m i) (renamed m (word0 g.rows i)) (renamed m (word1 g.rows i)) x y in
-      gate_words rows (m i) (firstEdge (renamed m (word0 g.rows i)) (renamed m (word1 g.rows i))) (secondEdge (renamed m (word0 g.rows i)) (renamed m (word1 g.rows i)))
+      gate_words rows (m i) (first_edge (renamed m (word0 g.rows i)) (renamed m (word1 g.rows i))) (second_edge (renamed m (word0 g.rows i)) (renamed m (word1 g.rows i)))
       (gate_is i l h) o.0 o.1
 
   leaf_moved : (i : ℕ) → i < used → leaf_at g.rows i ≡ true → leaf_at rows (m i) ≡ true

@@ -10,7 +10,7 @@ use mathlib.Core.List.{List}
 use lib.ListN.{length}
 use Rattle.rows.specs.Sizes.{rows_lent}
 use Rattle.rows.specs.Rows.{word0, word1, false_word, none, gate_at}
-use Rattle.gates.specs.Gates.{row_added, first as firstEdge, second as secondEdge, add_gate}
+use Rattle.gates.specs.Gates.{row_added, first as first_edge, second as second_edge, add_gate}
 use Rattle.gates.proofs.Building.{row_long}
 use Rattle.gates.proofs.Growing.{row_kept, row_first, row_second}
 use Rattle.renumber.specs.Renumber.{renamed}
@@ -54,10 +54,10 @@ leaf_stands out (suc n) i r l =
 -- ---- the gates
 module _ (m : ℕ → ℕ) (rows : List ℕ) (first : ℕ) (out : List ℕ) where
   abbrev a : ℕ → ℕ
-  a i = firstEdge (renamed m (word0 rows i)) (renamed m (word1 rows i))
+  a i = first_edge (renamed m (word0 rows i)) (renamed m (word1 rows i))
 
   abbrev b : ℕ → ℕ
-  b i = secondEdge (renamed m (word0 rows i)) (renamed m (word1 rows i))
+  b i = second_edge (renamed m (word0 rows i)) (renamed m (word1 rows i))
 
   added : (i k : ℕ) (table : List ℕ) → gate_added m rows i k table ≡ cond (gate_at rows i) (row_added table k (a i) (b i)) table
   unfolding gate_added add_gate

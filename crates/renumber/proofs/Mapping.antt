@@ -62,17 +62,17 @@ lists_room out n s =
 
 module _ (used : ℕ) (m : ℕ → ℕ) (map : List ℕ) (h : MarksHold used m map) where
   -- ---- what is written
-  pub renamed_by : (e : ℕ) → (e ≡ none) ⊎ (id_of e < used) → renamed (by map) e ≡ renamed m e
+  pub renamed_by_lem : (e : ℕ) → (e ≡ none) ⊎ (id_of e < used) → renamed (by map) e ≡ renamed m e
   unfolding renamed
-  renamed_by e (inl q) = rw (eq-eqb e none q)
-  renamed_by e (inr l) = rw (h (id_of e) l)
+  renamed_by_lem e (inl q) = rw (eq-eqb e none q)
+  renamed_by_lem e (inr l) = rw (h (id_of e) l)
 
   pub edges_by : (out : List ℕ) (at : ℕ) (list : List ℕ) (n : ℕ) → UsedEdges used list n → written out at (edges_of (by map) list) n ≡ written out at (edges_of m list) n
-  edges_by out at list n u = written_same out at (edges_of (by map) list) (edges_of m list) n (λ j l. renamed_by (get_or list j 0) (inr (u.below j l)))
+  edges_by out at list n u = written_same out at (edges_of (by map) list) (edges_of m list) n (λ j l. renamed_by_lem (get_or list j 0) (inr (u.below j l)))
 
   latch_by : (l : Latch) → UsedLatch used l → renamed_latch (by map) l ≡ renamed_latch m l
   unfolding renamed_latch
-  latch_by l u = simp (h l.input u.input, renamed_by l.next (inr u.next), renamed_by l.init u.init)
+  latch_by l u = simp (h l.input u.input, renamed_by_lem l.next (inr u.next), renamed_by_lem l.init u.init)
 
   latches_by :
       (out : List ℕ) (at : ℕ) (latches : List ℕ) (n : ℕ) → ((j : ℕ) → j < n → UsedLatch used (latch_at latches j)) → latches_written (by map) out at latches n ≡ latches_written m out at latches

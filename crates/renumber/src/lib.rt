@@ -3,7 +3,7 @@
 
 ghost use Rattle.std.specs.Prelude.{◌≡◌, ◌+◌, ◌*◌, ◌<◌, ◌^◌};
 ghost use Rattle.output.specs.Writing.{written};
-ghost use Rattle.renumber.specs.Renumber.{renamed as renamedBy, renamed_latch, edges_of, ids_of, ends_of, latches_written, lists, renumber, by};
+ghost use Rattle.renumber.specs.Renumber.{renamed as renamed_by, renamed_latch, edges_of, ids_of, ends_of, latches_written, lists, renumber, by};
 ghost use Rattle.renumber.specs.Steps.{Mapped, MappedEdge, MappedLatch, IdsReady, EdgesReady, LatchesReady, EndsReady, ListsReady};
 
 use edge::Answer;
@@ -21,7 +21,7 @@ pub struct Rebuilt {
 // The edge to the new number of its row, with its sign. It is not the none word: the words of a gate never are.
 pub fn renamed_edge(e: u32, map: &[u32]) -> u32
     requires { MappedEdge map.now e }
-    ensures { result ≡ renamedBy (by map.now) e }
+    ensures { result ≡ renamed_by (by map.now) e }
 {
     2 * map[(e / 2) as usize] + e % 2
 }
@@ -29,7 +29,7 @@ pub fn renamed_edge(e: u32, map: &[u32]) -> u32
 // The same, where the word may be none, which stays.
 fn renamed(e: u32, map: &[u32]) -> u32
     requires { Mapped map.now e }
-    ensures { result ≡ renamedBy (by map.now) e }
+    ensures { result ≡ renamed_by (by map.now) e }
 {
     if e == NONE {
         return e;

@@ -2,7 +2,7 @@
 #![tactic(auto)]
 
 ghost use Rattle.std.specs.Prelude.{◌≡◌, true, false, []};
-ghost use Rattle.edge.specs.Answers.{told as answerTold};
+ghost use Rattle.edge.specs.Answers.{told as answer_told};
 ghost use Rattle.build_leaves.specs.Leaves.{new_call, leaf_call, new_input_call, add_input_call};
 ghost use Rattle.build_latches.specs.Latches.{new_latch_call, add_latch_call};
 ghost use Rattle.build_nodes.specs.Nodes.{list_call, pair_call, imply_call, eq_call};
@@ -17,7 +17,7 @@ use sulandiro_words::{counts_in, put, tell, tell_counts};
 
 // Writes an answer, the counts, and behind them the edge or the id that was made.
 fn tell_made(told: &mut [u64], a: Answer, n: Counts, made: u32)
-    ensures { told.new ≡ told_words told.old (answerTold a) (made_words n made) }
+    ensures { told.new ≡ told_words told.old (answer_told a) (made_words n made) }
 {
     tell(told, a);
     tell_counts(told, n);
@@ -25,7 +25,7 @@ fn tell_made(told: &mut [u64], a: Answer, n: Counts, made: u32)
 }
 
 fn tell_built(told: &mut [u64], r: Built)
-    ensures { told.new ≡ told_words told.old (answerTold r.answer) (made_words r.counts r.edge) }
+    ensures { told.new ≡ told_words told.old (answer_told r.answer) (made_words r.counts r.edge) }
 {
     let a = r.answer;
     let n = r.counts;
@@ -34,7 +34,7 @@ fn tell_built(told: &mut [u64], r: Built)
 }
 
 fn tell_added(told: &mut [u64], r: Added)
-    ensures { told.new ≡ told_words told.old (answerTold r.answer) (made_words r.counts r.id) }
+    ensures { told.new ≡ told_words told.old (answer_told r.answer) (made_words r.counts r.id) }
 {
     let a = r.answer;
     let n = r.counts;

@@ -6,7 +6,7 @@ ghost use Rattle.graph.specs.Graph.{lent};
 ghost use Rattle.unroll.specs.Unroll.{unroll_call};
 ghost use Rattle.unroll_to.specs.Call.{unroll_to_call};
 ghost use Rattle.sulandiro_words.specs.Words.{counts_in};
-ghost use Rattle.edge.specs.Answers.{told as answerTold};
+ghost use Rattle.edge.specs.Answers.{told as answer_told};
 ghost use Rattle.sulandiro_unroll.specs.Frames.{told_ran, told_frames};
 ghost use Rattle.sulandiro_words.specs.Told.{told_seen, told_of};
 
@@ -15,7 +15,7 @@ use unroll_to::Unrolled;
 
 // Writes the answer and the counts, and behind them how many frames are finished.
 fn tell_frames(told: &mut [u64], r: Unrolled)
-    ensures { told.new ≡ told_ran told.old (answerTold r.answer) r.counts r.finished }
+    ensures { told.new ≡ told_ran told.old (answer_told r.answer) r.counts r.finished }
 {
     let a = r.answer;
     let n = r.counts;

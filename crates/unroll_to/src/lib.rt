@@ -4,7 +4,7 @@
 ghost use Rattle.std.specs.Prelude.{◌≡◌};
 ghost use Rattle.edge.specs.Answers.{told};
 ghost use Rattle.graph.specs.Graph.{lent};
-ghost use Rattle.unroll_to.specs.Frames.{frames as framesOf, frames_on, unrolled};
+ghost use Rattle.unroll_to.specs.Frames.{frames as frames_of, frames_on, unrolled};
 ghost use Rattle.unroll_to.specs.Steps.{FramesReady, UnrollReady};
 ghost use Rattle.renumber.specs.Steps.{found_seen};
 ghost use Rattle.unroll_to.specs.Call.{frames_answer, frames_seen, unroll_to_call};
@@ -64,11 +64,11 @@ fn add_frames(
         (lent rows.old inputs.old latches.old constraints.old bads.old outputs.old ends.old edges.old fairness.old counts)
         (lent rows2.now inputs2.now latches2.now constraints2.now bads2.now outputs2.now ends2.now edges2.now fairness2.now counts2)
         marks.old }
-    ensures counts_after { framesOf result.finished
+    ensures counts_after { frames_of result.finished
         (lent rows.new inputs.new latches.new constraints.new bads.new outputs.new ends.new edges.new fairness.new result.counts)
         ≡ frames_on
         (lent rows2.now inputs2.now latches2.now constraints2.now bads2.now outputs2.now ends2.now edges2.now fairness2.now counts2) frames
-        (framesOf 0 (lent rows.old inputs.old latches.old constraints.old bads.old outputs.old ends.old edges.old fairness.old counts)) }
+        (frames_of 0 (lent rows.old inputs.old latches.old constraints.old bads.old outputs.old ends.old edges.old fairness.old counts)) }
     ensures marks_unchanged { marks.new ≡ marks.old }
 {
     let mut at = counts;
@@ -186,7 +186,7 @@ fn write(
         (lent rows.now inputs.now latches.now constraints.now bads.now outputs.now ends.now edges.now fairness.now counts)
         (lent rows2.old inputs2.old latches2.old constraints2.old bads2.old outputs2.old ends2.old edges2.old fairness2.old counts)
         marks.old }
-    ensures counts_after { framesOf result.finished
+    ensures counts_after { frames_of result.finished
         (lent rows2.new inputs2.new latches2.new constraints2.new bads2.new outputs2.new ends2.new edges2.new fairness2.new result.counts)
         ≡ unrolled
         (lent rows.now inputs.now latches.now constraints.now bads.now outputs.now ends.now edges.now fairness.now counts)

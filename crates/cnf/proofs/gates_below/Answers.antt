@@ -26,8 +26,8 @@ loop-i-preserved c =
     let gate = gate_at c.args.rows.now in (
       search rules,
       elim c.if-is_gate.branch [
-        then-is_gate w ↦ count_taken gate l.i l.invariant.1 (sym c.is_gate.ensures ∙ w.if-is_gate.true-raw) w.gates-is
-        | else-is_gate w ↦ count_left gate l.i l.invariant.1 (sym c.is_gate.ensures ∙ w.if-is_gate.false-raw) w.gates-is
+        then-is_gate w ↦ count_taken gate l.i l.invariant.1 (sym c.is_gate.ensures ∙ w.if-is_gate.true) w.gates-is
+        | else-is_gate w ↦ count_left gate l.i l.invariant.1 (sym c.is_gate.ensures ∙ w.if-is_gate.false) w.gates-is
       ],
     )
 

@@ -9,12 +9,10 @@ use borrow.Author.Rules.{rules}
 use Rattle.frame.proofs.fits.Goals as goal
 
 pub returns-then-fits : goal.returns-then-fits
-returns-then-fits c =
-    let a = c.args in
-    let p = (c.requires.addable, c.requires.addable_2, c.requires.rows_nonzero, c.requires.latches_within, c.requires.bounded) in record { value = most_fits a.counts a.latches.now a.rows2.now a.counts2 p.1.1.0.0 p.1.1.1.1 a.room c.most-most.ensures.value (sym c.fits.ensures ∙ c.if-fits.true); marks_after = c.most-most.ensures.marks_after }
+returns-then-fits c = let a = c.args in record { value = most_fits a.counts a.latches.now a.rows2.now a.counts2 c.requires.rows_nonzero.0 c.requires.bounded a.room c.most-most.ensures.value (sym c.fits.ensures ∙ c.if-fits.true); marks_after = c.most-most.ensures.marks_after }
 
 pub needed-need-requires : goal.needed-need-requires
-needed-need-requires c = let p = (c.requires.addable, c.requires.addable_2, c.requires.rows_nonzero, c.requires.latches_within, c.requires.bounded) in record { all_rows = p.1.1.1.1.rows; addable = p.0; addable_2 = p.1.0; rows_nonzero = (p.1.1.0.0, p.1.1.0.1, omega (arith, c.most-most.auto.marks, p.1.1.0.2)); latches_within = p.1.1.1.0 }
+needed-need-requires c = record { all_rows = c.requires.bounded.rows; addable = c.requires.addable; addable_2 = c.requires.addable_2; rows_nonzero = (c.requires.rows_nonzero.0, c.requires.rows_nonzero.1, omega (arith, c.most-most.auto.marks, c.requires.rows_nonzero.2)); latches_within = c.requires.latches_within }
 
 pub returns : goal.returns
 returns c =

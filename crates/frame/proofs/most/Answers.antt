@@ -13,9 +13,7 @@ slice_bounds-start_map-end-2 c =
     omega (arith, part_long a.counts2.rows a.marks.now c.requires.rows_nonzero.2)
 
 pub start_map-requires : goal.start_map-requires
-start_map-requires c =
-    let a = c.args in
-    let p = (c.requires.addable, c.requires.addable_2, c.requires.rows_nonzero, c.requires.latches_within) in rw (part_long a.counts2.rows a.marks.now p.1.1.0.2) record { map_nonzero = p.1.1.0.0; latches_within = p.1.1.1 }
+start_map-requires c = let a = c.args in rw (part_long a.counts2.rows a.marks.now c.requires.rows_nonzero.2) record { map_nonzero = c.requires.rows_nonzero.0; latches_within = c.requires.latches_within }
 
 pub slice_bounds-new_leaves-end-2 : goal.slice_bounds-new_leaves-end-2
 slice_bounds-new_leaves-end-2 c =
@@ -27,19 +25,17 @@ slice_bounds-new_leaves-end-2 c =
 pub new_leaves-leaves-requires : goal.new_leaves-leaves-requires
 new_leaves-leaves-requires c =
     let a = c.args in
-    let p = (c.requires.addable, c.requires.addable_2, c.requires.rows_nonzero, c.requires.latches_within) in
-    let h = p.1.1.0.2 in
+    let h = c.requires.rows_nonzero.2 in
     let k = c.start_map.auto.map ∙ part_long a.counts2.rows a.marks.now h in
-    rw (map_part a.counts2.rows a.marks.now h c.start_map.new.map k, k) (p.1.1.0.1, p.1.0.rows)
+    rw (map_part a.counts2.rows a.marks.now h c.start_map.new.map k, k) (c.requires.rows_nonzero.1, c.requires.addable_2.rows)
 
 pub overflow_add-counts-2 : goal.overflow_add-counts-2
 overflow_add-counts-2 c =
     let a = c.args in
-    let p = (c.requires.addable, c.requires.addable_2, c.requires.rows_nonzero, c.requires.latches_within) in
-    let h = p.1.1.0.2 in
+    let h = c.requires.rows_nonzero.2 in
     let k = c.start_map.auto.map ∙ part_long a.counts2.rows a.marks.now h in
     let w = leaves_few a.rows2.now a.counts2.rows (map_part a.counts2.rows a.marks.now h c.start_map.new.map k) k c.new_leaves-leaves.ensures in
-    omega (arith, w, p.0.inputs, p.1.0.rows)
+    omega (arith, w, c.requires.addable.inputs, c.requires.addable_2.rows)
 
 pub returns : goal.returns
 returns c =

@@ -12,14 +12,10 @@ use Rattle.merge.proofs.merge.Goals as goal
 use Rattle.merge.proofs.merge.Goals.{Else-not-is_done}
 
 -- the call is accepted, where so many marks are lent
-right :
-    (c : Else-not-is_done) →
+right : (c : Else-not-is_done) {n : ℕ} →
     let one = lent c.args.rows.now c.args.inputs.now c.args.latches.now c.args.constraints.now c.args.bads.now c.args.outputs.now c.args.ends.now c.args.edges.now c.args.fairness.now c.args.counts in
     let other = lent c.args.rows2.now c.args.inputs2.now c.args.latches2.now c.args.constraints2.now c.args.bads2.now c.args.outputs2.now c.args.ends2.now c.args.edges2.now c.args.fairness2.now c.args.counts2 in
-    {n : ℕ} → length
-    c.args.marks.now ≡ n → MergeLent
-    one
-    other n
+    length c.args.marks.now ≡ n → MergeLent one other n
 right c e =
     let one = lent c.args.rows.now c.args.inputs.now c.args.latches.now c.args.constraints.now c.args.bads.now c.args.outputs.now c.args.ends.now c.args.edges.now c.args.fairness.now c.args.counts in
     let other = lent c.args.rows2.now c.args.inputs2.now c.args.latches2.now c.args.constraints2.now c.args.bads2.now c.args.outputs2.now c.args.ends2.now c.args.edges2.now c.args.fairness2.now c.args.counts2 in

@@ -58,13 +58,13 @@ pub write_ids-requires : goal.write_ids-requires
 write_ids-requires c =
     let one = lent c.args.rows.now c.args.inputs.now c.args.latches.now c.args.constraints.now c.args.bads.now c.args.outputs.now c.args.ends.now c.args.edges.now c.args.fairness.now c.args.counts in
     let other = lent c.args.rows2.now c.args.inputs2.now c.args.latches2.now c.args.constraints2.now c.args.bads2.now c.args.outputs2.now c.args.ends2.now c.args.edges2.now c.args.fairness2.now c.args.counts2 in
-    inputs_ready one other _ (right (goal.at.write_ids-requires c).Start) c.fill.new.map (held (goal.at.write_ids-requires c).After-struct_known-1) (omega (arith, (right (goal.at.write_ids-requires c).Start).sized.second.marked))
+    inputs_ready one other _ (right (goal.at.write_ids-requires c).Start) c.fill.new.map (held (goal.at.write_ids-requires c).After-fill) (omega (arith, (right (goal.at.write_ids-requires c).Start).sized.second.marked))
 
 pub write_lists-requires : goal.write_lists-requires
 write_lists-requires c =
     let one = lent c.args.rows.now c.args.inputs.now c.args.latches.now c.args.constraints.now c.args.bads.now c.args.outputs.now c.args.ends.now c.args.edges.now c.args.fairness.now c.args.counts in
     let other = lent c.args.rows2.now c.args.inputs2.now c.args.latches2.now c.args.constraints2.now c.args.bads2.now c.args.outputs2.now c.args.ends2.now c.args.edges2.now c.args.fairness2.now c.args.counts2 in
-    record { edges_bound = omega (arith, (right (goal.at.write_lists-requires c).Start).sized.first.edges.within, (right (goal.at.write_lists-requires c).Start).sized.first.edges.limited); lists_ready = all_ready one other _ (right (goal.at.write_lists-requires c).Start) c.fill.new.map (held (goal.at.write_lists-requires c).After-fill-arg-1) (omega (arith, (right (goal.at.write_lists-requires c).Start).sized.second.marked)) }
+    record { edges_bound = omega (arith, (right (goal.at.write_lists-requires c).Start).sized.first.edges.within, (right (goal.at.write_lists-requires c).Start).sized.first.edges.limited); lists_ready = all_ready one other _ (right (goal.at.write_lists-requires c).Start) c.fill.new.map (held (goal.at.write_lists-requires c).After-fill) (omega (arith, (right (goal.at.write_lists-requires c).Start).sized.second.marked)) }
 
 pub clear-requires : goal.clear-requires
 clear-requires c = omega (arith, (right (goal.at.clear-requires c).Start).sized.first.marked, (right (goal.at.clear-requires c).Start).sized.second.marked, c.fill.auto.map)
@@ -74,7 +74,7 @@ returns c =
     let one = lent c.args.rows.now c.args.inputs.now c.args.latches.now c.args.constraints.now c.args.bads.now c.args.outputs.now c.args.ends.now c.args.edges.now c.args.fairness.now c.args.counts in
     let other = lent c.args.rows2.now c.args.inputs2.now c.args.latches2.now c.args.constraints2.now c.args.bads2.now c.args.outputs2.now c.args.ends2.now c.args.edges2.now c.args.fairness2.now c.args.counts2 in
     record {
-      counts2_after = whole one other _ (right (goal.at.returns c).Start) c.fill.new.map (held (goal.at.returns c).After-fill-arg-1) (rw (tail 2 c.args.rows2.now) at c.write_rows.ensures)
+      counts2_after = whole one other _ (right (goal.at.returns c).Start) c.fill.new.map (held (goal.at.returns c).After-fill) (rw (tail 2 c.args.rows2.now) at c.write_rows.ensures)
           c.write_ids.ensures c.write_lists.ensures;
       marks_after = map_cleared (shifted (offset one)) c.args.counts2.rows c.args.marks.now c.fill.ensures c.clear.ensures;
     }

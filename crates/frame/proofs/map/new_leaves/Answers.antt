@@ -7,6 +7,7 @@ use Rattle.frame.specs.Steps.{new_leaves}
 use Rattle.frame.proofs.Bounding.{leaves_start, leaves_ended, leaves_one, leaves_no, one_more, no_more}
 use borrow.Author.Rules.{rules}
 use Rattle.frame.proofs.map.new_leaves.Goals as goal
+use Rattle.frame.proofs.map.new_leaves.Goals.{else-from-i, then-from-i}
 
 pub loop-i-init : goal.loop-i-init
 loop-i-init c = (search rules, search rules, leaves_start c.args.from.now c.args.map.now (length c.args.map.now))
@@ -18,9 +19,14 @@ loop-i-preserved c =
     let n = length a.map.now in
     let t = c.loop-i-test.true in (
       search rules,
-      ⊎_elim (λ w. one_more l.n l.i l.invariant.1 w.1) (λ w. no_more l.n l.i l.invariant.1 w.1) c.if-from-i.branch,
-      ⊎_elim (λ w. leaves_one a.from.now a.map.now n l.i l.n (new_leaves a.from.now a.map.now 0 n) l.invariant.2 t w.0.taken w.1)
-          (λ w. leaves_no a.from.now a.map.now n l.i l.n (new_leaves a.from.now a.map.now 0 n) l.invariant.2 t w.0.left w.1) c.if-from-i.branch,
+      elim c.if-from-i.branch [
+        | then-from-i w ↦ one_more l.n l.i l.invariant.1 w.n-is
+        | else-from-i w ↦ no_more l.n l.i l.invariant.1 w.n-is
+      ],
+      elim c.if-from-i.branch [
+        | then-from-i w ↦ leaves_one a.from.now a.map.now n l.i l.n (new_leaves a.from.now a.map.now 0 n) l.invariant.2 t w.if-from-i.true w.n-is
+        | else-from-i w ↦ leaves_no a.from.now a.map.now n l.i l.n (new_leaves a.from.now a.map.now 0 n) l.invariant.2 t w.if-from-i.false w.n-is
+      ],
     )
 
 pub returns : goal.returns

@@ -9,6 +9,7 @@ use Rattle.kept_rows.proofs.Copying.{Keeping, keep_start, keep_taken, keep_left,
 use Rattle.graph.proofs.Counting.{count_small}
 use borrow.Author.Rules.{rules}
 use Rattle.kept_rows.proofs.copies.write_inputs.Goals as goal
+use Rattle.kept_rows.proofs.copies.write_inputs.Goals.{else-is_numbered, then-is_numbered}
 
 pub loop-j-init : goal.loop-j-init
 loop-j-init c = (
@@ -54,23 +55,24 @@ overflow_add-k c = omega (arith, count_small _ _ c.loop-j.invariant.1.count)
 pub loop-j-preserved : goal.loop-j-preserved
 loop-j-preserved c = (
   search rules,
-  ⊎_elim
-      (λ w. keep_taken
-      (kept_input (numbered c.args.map.now)
-      c.args.inputs.now)
-      (word_put
-      (ids_of (by c.args.map.now) c.args.inputs.now))
-      c.args.out.now c.loop-j.j c.loop-j.invariant.1
-      (word_put_length
-      (ids_of (by c.args.map.now) c.args.inputs.now))
-      (sym c.is_numbered.ensures ∙ w.0.taken) w.2 w.3)
-      (λ w. keep_left
-      (kept_input (numbered c.args.map.now)
-      c.args.inputs.now)
-      (word_put
-      (ids_of (by c.args.map.now) c.args.inputs.now))
-      c.args.out.now c.loop-j.j c.loop-j.invariant.1
-      (sym c.is_numbered.ensures ∙ w.0.left) w.1 w.2) c.if-is_numbered.branch,
+  elim c.if-is_numbered.branch [
+    | then-is_numbered w ↦ keep_taken
+        (kept_input (numbered c.args.map.now)
+        c.args.inputs.now)
+        (word_put
+        (ids_of (by c.args.map.now) c.args.inputs.now))
+        c.args.out.now c.loop-j.j c.loop-j.invariant.1
+        (word_put_length
+        (ids_of (by c.args.map.now) c.args.inputs.now))
+        (sym c.is_numbered.ensures ∙ w.if-is_numbered.true) w.out-is w.k-is
+    | else-is_numbered w ↦ keep_left
+        (kept_input (numbered c.args.map.now)
+        c.args.inputs.now)
+        (word_put
+        (ids_of (by c.args.map.now) c.args.inputs.now))
+        c.args.out.now c.loop-j.j c.loop-j.invariant.1
+        (sym c.is_numbered.ensures ∙ w.if-is_numbered.false) w.out-is w.k-is
+  ],
 )
 
 pub shape_of-out : goal.shape_of-out

@@ -10,6 +10,7 @@ use Rattle.kept_rows.proofs.Copying.{Keeping, keep_start, keep_taken, keep_left,
 use Rattle.graph.proofs.Counting.{count_small}
 use borrow.Author.Rules.{rules}
 use Rattle.kept_rows.proofs.copies.write_rows.Goals as goal
+use Rattle.kept_rows.proofs.copies.write_rows.Goals.{else-is_numbered, then-is_numbered}
 
 pub loop-i-init : goal.loop-i-init
 loop-i-init c = (
@@ -62,23 +63,25 @@ overflow_add-k c = omega (arith, count_small _ _ c.loop-i.invariant.1.count, c.r
 pub loop-i-preserved : goal.loop-i-preserved
 loop-i-preserved c = (
   search rules,
-  ⊎_elim
-      (λ w. keep_taken (numbered c.args.map.now)
-      (row_put (by c.args.map.now) c.args.rows.now)
-      c.args.out.now c.loop-i.i c.loop-i.invariant.1
-      (row_put_length (by c.args.map.now) c.args.rows.now)
-      (sym c.is_numbered.ensures ∙ w.0.taken) (w.5 ∙ w.2.ensures) w.7)
-      (λ w. keep_left (numbered c.args.map.now)
-      (row_put (by c.args.map.now) c.args.rows.now)
-      c.args.out.now c.loop-i.i c.loop-i.invariant.1
-      (sym c.is_numbered.ensures ∙ w.0.left) w.1 w.3) c.if-is_numbered.branch,
-  ⊎_elim
-      (λ w. keep_taken (numbered c.args.map.now) (word_put (λ (j : ℕ). j))
-      c.args.old.now c.loop-i.i c.loop-i.invariant.2
-      (word_put_length (λ (j : ℕ). j)) (sym c.is_numbered.ensures ∙ w.0.taken) w.6 w.7)
-      (λ w. keep_left (numbered c.args.map.now) (word_put (λ (j : ℕ). j))
-      c.args.old.now c.loop-i.i c.loop-i.invariant.2
-      (sym c.is_numbered.ensures ∙ w.0.left) w.2 w.3) c.if-is_numbered.branch,
+  elim c.if-is_numbered.branch [
+    | then-is_numbered w ↦ keep_taken (numbered c.args.map.now)
+        (row_put (by c.args.map.now) c.args.rows.now)
+        c.args.out.now c.loop-i.i c.loop-i.invariant.1
+        (row_put_length (by c.args.map.now) c.args.rows.now)
+        (sym c.is_numbered.ensures ∙ w.if-is_numbered.true) (w.out-is ∙ w.copy_row.ensures) w.k-is
+    | else-is_numbered w ↦ keep_left (numbered c.args.map.now)
+        (row_put (by c.args.map.now) c.args.rows.now)
+        c.args.out.now c.loop-i.i c.loop-i.invariant.1
+        (sym c.is_numbered.ensures ∙ w.if-is_numbered.false) w.out-is w.k-is
+  ],
+  elim c.if-is_numbered.branch [
+    | then-is_numbered w ↦ keep_taken (numbered c.args.map.now) (word_put (λ (j : ℕ). j))
+        c.args.old.now c.loop-i.i c.loop-i.invariant.2
+        (word_put_length (λ (j : ℕ). j)) (sym c.is_numbered.ensures ∙ w.if-is_numbered.true) w.old-is w.k-is
+    | else-is_numbered w ↦ keep_left (numbered c.args.map.now) (word_put (λ (j : ℕ). j))
+        c.args.old.now c.loop-i.i c.loop-i.invariant.2
+        (sym c.is_numbered.ensures ∙ w.if-is_numbered.false) w.old-is w.k-is
+  ],
 )
 
 pub shape_of-out : goal.shape_of-out

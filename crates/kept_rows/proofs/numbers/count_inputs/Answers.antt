@@ -9,6 +9,7 @@ use Rattle.kept_rows.specs.Keeping.{numbered, kept_input}
 use Rattle.graph.proofs.Counting.{count_taken, count_left, count_small}
 use borrow.Author.Rules.{rules}
 use Rattle.kept_rows.proofs.numbers.count_inputs.Goals as goal
+use Rattle.kept_rows.proofs.numbers.count_inputs.Goals.{else-is_numbered, then-is_numbered}
 
 pub loop-j-init : goal.loop-j-init
 unfolding count_below
@@ -32,13 +33,14 @@ overflow_add-k c = omega (arith, count_small _ _ c.loop-j.invariant.1)
 pub loop-j-preserved : goal.loop-j-preserved
 loop-j-preserved c = (
   search rules,
-  ⊎_elim
-      (λ w. count_taken
-      (kept_input (numbered c.args.map.now) c.args.inputs.now)
-      c.loop-j.j c.loop-j.invariant.1 (sym c.is_numbered.ensures ∙ w.0.taken) w.1)
-      (λ w. count_left
-      (kept_input (numbered c.args.map.now) c.args.inputs.now)
-      c.loop-j.j c.loop-j.invariant.1 (sym c.is_numbered.ensures ∙ w.0.left) w.1) c.if-is_numbered.branch,
+  elim c.if-is_numbered.branch [
+    | then-is_numbered w ↦ count_taken
+        (kept_input (numbered c.args.map.now) c.args.inputs.now)
+        c.loop-j.j c.loop-j.invariant.1 (sym c.is_numbered.ensures ∙ w.if-is_numbered.true) w.k-is
+    | else-is_numbered w ↦ count_left
+        (kept_input (numbered c.args.map.now) c.args.inputs.now)
+        c.loop-j.j c.loop-j.invariant.1 (sym c.is_numbered.ensures ∙ w.if-is_numbered.false) w.k-is
+  ],
 )
 
 pub returns : goal.returns

@@ -9,6 +9,7 @@ use mathlib.Core.Logic.{⊎_elim}
 use lib.ListN.{length}
 use borrow.Author.Rules.{rules}
 use Rattle.kept_rows.proofs.numbers.number.Goals as goal
+use Rattle.kept_rows.proofs.numbers.number.Goals.{else-marks-i-eq1, then-marks-i-eq1}
 
 pub loop-i-init : goal.loop-i-init
 loop-i-init c = (search rules, refl, number_start c.args.marks.now)
@@ -29,9 +30,11 @@ pub loop-i-preserved : goal.loop-i-preserved
 loop-i-preserved c = (
   search rules,
   search rules,
-  ⊎_elim (λ w. number_taken c.args.marks.now c.loop-i.i c.loop-i.invariant.2 w.0.taken w.1 w.2)
-      (λ w. number_left c.args.marks.now c.loop-i.i c.loop-i.invariant.2
-      c.requires.flags w.0.left w.1 w.2) c.if-marks-i-eq1.branch,
+  elim c.if-marks-i-eq1.branch [
+    | then-marks-i-eq1 w ↦ number_taken c.args.marks.now c.loop-i.i c.loop-i.invariant.2 w.if-marks-i-eq1.true w.marks-is w.k-is
+    | else-marks-i-eq1 w ↦ number_left c.args.marks.now c.loop-i.i c.loop-i.invariant.2
+        c.requires.flags w.if-marks-i-eq1.false w.marks-is w.k-is
+  ],
 )
 
 pub shape_of-marks : goal.shape_of-marks

@@ -10,6 +10,7 @@ use Rattle.reencode.proofs.Leaving.{none_leaf, else_no_leaf}
 use Rattle.graph.proofs.Counting.{count_within, count_taken, count_left}
 use borrow.Author.Rules.{rules}
 use Rattle.reencode.proofs.leaves.count_leaves.Goals as goal
+use Rattle.reencode.proofs.leaves.count_leaves.Goals.{else-rows-i, then-rows-i}
 
 pub loop-i-init : goal.loop-i-init
 unfolding count_below
@@ -21,12 +22,13 @@ overflow_add-n c = omega (arith, c.loop-i.invariant.1, count_within (leaf_at c.a
 pub loop-i-preserved : goal.loop-i-preserved
 loop-i-preserved c =
     let a = c.args in
-    let p = (c.requires.used_in_bounds, c.requires.used_le_max_rows, c.requires.all_rows) in
     let l = c.loop-i in
     let leaf = leaf_at a.rows.now in (
       search rules,
-      ⊎_elim (λ w. count_taken leaf l.i l.invariant.1 (none_leaf a.rows.now a.used l.i p.1.0 p.1.1 c.loop-i-test.true w.0.taken) w.1)
-          (λ w. count_left leaf l.i l.invariant.1 (else_no_leaf a.rows.now l.i w.0.left) w.1) c.if-rows-i.branch,
+      elim c.if-rows-i.branch [
+        | then-rows-i w ↦ count_taken leaf l.i l.invariant.1 (none_leaf a.rows.now a.used l.i c.requires.used_le_max_rows c.requires.all_rows c.loop-i-test.true w.if-rows-i.true) w.n-is
+        | else-rows-i w ↦ count_left leaf l.i l.invariant.1 (else_no_leaf a.rows.now l.i w.if-rows-i.false) w.n-is
+      ],
     )
 
 pub returns : goal.returns
