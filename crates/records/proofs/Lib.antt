@@ -1,14 +1,7 @@
-pub mod Again
-pub mod Arrays
 pub mod Calling
-pub mod Finding
 pub mod Laying
-pub mod Listing
 pub mod Local
-pub mod Locals
 pub mod Meaning
 pub mod Nexting
 pub mod Pairing
-pub mod Sharing
-pub mod Tables
 pub mod Working

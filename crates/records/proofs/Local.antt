@@ -6,13 +6,9 @@ use mathlib.Core.Bool.{true, cond}
 use mathlib.Core.List.{List, ◌++◌, append-nil}
 use lib.ListN.{length, take, drop}
 use lib.Seq.{take-length, drop-length}
-use lib.Dec.{leb, lit<}
-use base.Fml.{GName}
-use denote.Ref.{MutBor}
-use denote.Slice.{Room}
+use lib.Dec.{leb}
 use Rattle.graph.specs.declared.latch.Latch.{Latch}
 use Rattle.graph.specs.Latches.{latch_words}
-use Rattle.graph.specs.contracts.latch.Latch as L
 use Rattle.records.specs.Table.{words_of, room_for, all_taken, back, laid_out}
 use Rattle.edge.specs.declared.answer.Answer.{Answer}
 use Rattle.records.specs.declared.table.Found.{Found}
@@ -20,13 +16,6 @@ use Rattle.records.specs.Entries.{TableSeen, found_seen, latch_call, table_seen,
 use Rattle.records.specs.Local.{table_size, empty, held, entry_seen, next_through}
 use Rattle.records.proofs.Meaning.{all_back}
 use Rattle.records.proofs.Nexting.{back_length}
-
--- the table in the local l, lent as a slice
-abbrev pub at_table : ℕ → GName → List Latch → MutBor (List Latch)
-at_table l δ t = record { ref_ptr = (l, 0); ghost_name = δ; now = t }
-
-pub table_room : Room L.the_row table_size
-table_room = (lit< tt, lit< tt)
 
 -- the words fill a table
 abbrev pub Fills : List ℕ → Type 0
