@@ -11,7 +11,7 @@ use Rattle.marked.proofs.Telling.{never, tells_same}
 use Rattle.marked.proofs.same.Given as goal
 
 abbrev pub invariant-loop-i : goal.invariant-loop-i
-invariant-loop-i l = (l.i ≤ length l.a) × ((k : ℕ) → k < l.i → Alike l.a l.b k)
+invariant-loop-i l = (l.i ≤ length l.a) × ((k : ℕ) → k < l.i → get_or l.a k 0 ≡ get_or l.b k 0)
 
 abbrev pub decreases-loop-i : goal.decreases-loop-i
 decreases-loop-i l = length l.a - l.i
