@@ -1,5 +1,5 @@
 -- `record_unroll::unroll` meets its contract.
-use Rattle.std.proofs.Common.{◌≡◌, List, length, refl, ap, ◌∙◌}
+use Rattle.std.proofs.Common.{◌≡◌, ℕ, List, length, refl, ap, ◌∙◌}
 use Rattle.graph.specs.Graph.{Lent, lent}
 use Rattle.renumber.specs.Seen.{RebuiltSeen, rebuilt_seen}
 use Rattle.records.specs.Table.{words_of, wiped}

@@ -1,5 +1,5 @@
 -- `record_unroll::unroll_tables` meets its contract.
-use Rattle.std.proofs.Common.{List, ◌∙◌}
+use Rattle.std.proofs.Common.{ℕ, List, ◌∙◌}
 use Rattle.graph.specs.Graph.{lent}
 use Rattle.renumber.specs.Seen.{rebuilt_seen}
 use Rattle.record_unroll.specs.Call.{unroll_with, unroll_refused}
