@@ -6,21 +6,6 @@ use Rattle.sulandiro_words.proofs.Telling.{tells}
 use borrow.Author.Rules.{rules}
 use Rattle.sulandiro_property.proofs.sulandiro_gate_init_to_constraint.Goals as goal
 
-pub shape_of-rows : goal.shape_of-rows
-shape_of-rows c = c.gate_init_to_constraint-r.kept.0
-
-pub shape_of-latches : goal.shape_of-latches
-shape_of-latches c = c.gate_init_to_constraint-r.kept.1.1.0
-
-pub shape_of-constraints : goal.shape_of-constraints
-shape_of-constraints c = c.gate_init_to_constraint-r.kept.1.1.1.0
-
-pub shape_of-marks : goal.shape_of-marks
-shape_of-marks c = c.gate_init_to_constraint-r.kept.1.1.1.1.1.1.1.1.1.1.0
-
-pub shape_of-told : goal.shape_of-told
-shape_of-told c = c.tell_rebuilt.kept.0
-
 pub returns : goal.returns
 returns c =
     tells c.args.told.now c.gate_init_to_constraint-r.result
