@@ -45,7 +45,7 @@ result = lent (false_word ∷ 0 ∷ none ∷ 0 ∷ none ∷ 0 ∷ none ∷ 0 ∷
 
 -- the answer, the whole graph and the marks; words beyond stay
 pub moved_case : move_call given room (9 ∷ 9 ∷ 9 ∷ 9 ∷ []) ≡ record { given = done; graph = result; marks = 0 ∷ 0 ∷ 0 ∷ 9 ∷ [] }
-unfolding or_else complement fits rows_fit is_false_row is_leaf is_gate is_row first_bad first_fault latch_inputs latch_set member free_leaf latch_edges end_is set_of sizes_right contents check_call row_added
-    first second add_gate folded add_and add_step steps all_of list_of args_call written limits_in fits_in copied copy_of asked_in next_of guard_of making_of counts_with first_set finished moved move_answer
-    move_call
+unfolding or_else complement fits rows_fit is_false_row is_leaf is_gate is_row first_bad first_fault latch_inputs latch_set member free_leaf latch_edges end_is set_of sizes_right contents
+    check_call row_added first second add_gate folded add_and add_step steps all_of list_of args_call written limits_in fits_in copied copy_of asked_in next_of guard_of making_of counts_with
+    first_set finished moved move_answer move_call
 moved_case = refl

@@ -1,4 +1,4 @@
--- A well_formed graph stays one where a latch is added.
+-- A well-formed graph stays one where a latch is added.
 -- Assumes nothing.
 use Prim.Native.Nat.{ℕ, ◌+◌, ◌*◌, ◌≤◌, ◌<◌}
 use native.Mathlib.Omega.{arith}

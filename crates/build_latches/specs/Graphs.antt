@@ -1,4 +1,4 @@
--- A well_formed graph stays one where a latch is added.
+-- A well-formed graph stays one where a latch is added.
 -- Assumes nothing.
 use Rattle.std.specs.Prelude.{ℕ, ◌≡◌, true, false}
 use Rattle.rows.specs.Rows.{leaf_at}
@@ -13,7 +13,7 @@ use Rattle.build_latches.specs.Latches.{new_latch_call, add_latch_call}
 abbrev pub with_latches : Lent → Left → Lent
 with_latches g a = lent a.rows g.inputs a.list g.constraints g.bads g.outputs g.ends g.edges g.fairness a.counts
 
--- the calls on a well_formed graph
+-- the calls on a well-formed graph
 pub record LatchesStay (g : Lent) : Type 0 where
   pub new_latch_lem : (next init : ℕ) → Stays (new_latch_call g.rows g.latches g.counts next init) (with_latches g)
   -- "a wrong one shows as 3 later": a leaf in neither list is right

@@ -11,7 +11,7 @@ use borrow.Author.Tests.{ltb-true, eq-eqb}
 use Rattle.edge.specs.declared.answer.Given.{Given}
 use Rattle.edge.proofs.Tests.{both}
 use Rattle.rows.specs.Sizes.{max_rows, max_entries, fits, rows_lent, rows_fit}
-use Rattle.rows.specs.Rows.{word0, word1, false_word, none, is_false_row, is_leaf, is_row, leaf_at, AllRows}
+use Rattle.rows.specs.Rows.{word0, word1, false_word, none, is_false_row, is_row, leaf_at, AllRows}
 use Rattle.rows.proofs.Laws.{rows_fit_lem}
 use Rattle.rows.proofs.Value.{value_leaf}
 use Rattle.graph.specs.declared.Counts.{Counts}

@@ -1,4 +1,4 @@
--- A well_formed graph stays one where a leaf or an input is added.
+-- A well-formed graph stays one where a leaf or an input is added.
 -- Assumes nothing.
 use Rattle.std.specs.Prelude.{ℕ, ◌≡◌, true, false}
 use Rattle.rows.specs.Rows.{leaf_at}
@@ -15,7 +15,7 @@ with_rows g a = lent a.rows g.inputs g.latches g.constraints g.bads g.outputs g.
 abbrev pub with_inputs : Lent → Left → Lent
 with_inputs g a = lent a.rows a.list g.latches g.constraints g.bads g.outputs g.ends g.edges g.fairness a.counts
 
--- where the call is done, the graph that it leaves is well_formed
+-- where the call is done, the graph that it leaves is well-formed
 abbrev pub Stays : Seen → (Left → Lent) → Type 0
 Stays s after = s.given.number ≡ 0 → WellFormed (after s.left)
 
@@ -23,7 +23,7 @@ Stays s after = s.given.number ≡ 0 → WellFormed (after s.left)
 abbrev pub Fresh : Lent → Type 0
 Fresh g = Stays (new_call g.rows) (with_rows g)
 
--- the calls on a well_formed graph
+-- the calls on a well-formed graph
 pub record LeavesStay (g : Lent) : Type 0 where
   pub leaf : Stays (leaf_call g.rows g.counts) (with_rows g)
   pub new_input : Stays (new_input_call g.rows g.inputs g.counts) (with_inputs g)

@@ -1,4 +1,4 @@
--- A well_formed graph stays one where an edge is made.
+-- A well-formed graph stays one where an edge is made.
 -- Assumes nothing.
 use Prim.Native.Nat.{ℕ, ◌≤◌}
 use native.Mathlib.Omega.{arith}

@@ -2,7 +2,7 @@
 -- Assumes nothing.
 use Rattle.std.specs.Prelude.{ℕ, List, true}
 use Rattle.edge.specs.declared.answer.Given.{Given}
-use Rattle.build_leaves.specs.Calls.{constructor_answer, counted}
+use Rattle.build_leaves.specs.Calls.{constructor_answer}
 use Rattle.build_nodes.specs.Nodes.{all_used, gate_sizes}
 
 -- 1 and 4, before the need is counted

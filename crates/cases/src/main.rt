@@ -19,9 +19,10 @@ mod ternary_calls;
 mod writer;
 
 use outcome::Outcome;
+use std::io::{self, Read};
 
 // The arena holds 600,000 words, and three words more for each of 32 slots.
-fn main() {
+fn main(rt: HostRuntime) -> io::Result<()> {
     let mut input = [0u8; 65536];
     let mut output = [0u8; 65536];
     let mut arena = [0u32; 600096];
@@ -33,6 +34,8 @@ fn main() {
     let mut state = [0u8; 65600];
     let mut values = [0u8; 65600];
     with(
+        &rt,
+        &mut rt.stdin(),
         &mut input,
         &mut output,
         &mut arena,
@@ -43,11 +46,13 @@ fn main() {
         &mut inputs,
         &mut state,
         &mut values,
-    );
+    )
 }
 
 // Passes the arrays on as slices: parts of them are taken there.
-fn with(
+fn with<S: Read>(
+    rt: &impl Print,
+    source: &mut S,
     input: &mut [u8; 65536],
     output: &mut [u8; 65536],
     arena: &mut [u32; 600096],
@@ -58,16 +63,18 @@ fn with(
     inputs: &mut [u8; 65600],
     state: &mut [u8; 65600],
     values: &mut [u8; 65600],
-) {
+) -> io::Result<()> {
     start(
-        input, output, arena, scalars, small, middle, large, inputs, state, values,
-    );
+        rt, source, input, output, arena, scalars, small, middle, large, inputs, state, values,
+    )
 }
 
 // Replays case after case. The call of a case that could not be read is made too, and nothing is written of it.
 //
 // A proved loop has to end, and nothing says that a script does. So the loop counts its turns down, from a number that no run uses up.
-fn start(
+fn start<S: Read>(
+    rt: &impl Print,
+    source: &mut S,
     input: &mut [u8],
     output: &mut [u8],
     arena: &mut [u32],
@@ -78,18 +85,18 @@ fn start(
     inputs: &mut [u8],
     state: &mut [u8],
     values: &mut [u8],
-) {
+) -> io::Result<()> {
     let mut run = run::begun();
     let mut turns = u64::MAX;
     while turns > 0 && reader::is_good(run.reader) {
         turns -= 1;
-        let case = script::next_case(input, arena, scalars, run.reader);
+        let case = script::next_case(source, input, arena, scalars, run.reader)?;
         let o = made(
             case.call, arena, scalars, small, middle, large, inputs, state, values,
         );
-        run = run::written(output, arena, run.writer, case, o);
+        run = run::written(rt, output, arena, run.writer, case, o)?;
     }
-    run::finish(output, run);
+    run::finish(rt, output, run)
 }
 
 // Makes the call. An array takes the words of a slot that the call writes to.

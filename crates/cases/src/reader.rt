@@ -1,7 +1,7 @@
 // Numbers from standard input, through a buffer that is filled again when it is used up.
 ghost use Rattle.std.specs.Prelude.{◌<◌};
 
-use libc::STDIN_FILENO;
+use std::io::{self, Read};
 
 // Where the next byte stands in the buffer, how many bytes the buffer has, whether the input ended where a number was wanted, and
 // whether what was read cannot be kept. The last two stay once they are set, so a caller may look at them late.
@@ -60,86 +60,91 @@ pub fn whole(r: Reader) -> Reader {
 }
 
 // The next number, below 2^64. Words that begin with anything but a digit are passed over. Where the input has ended or is bad it is 0.
-pub fn number(buf: &mut [u8], r: Reader) -> Got {
+pub fn number<S: Read>(source: &mut S, buf: &mut [u8], r: Reader) -> io::Result<Got> {
     if !is_good(r) {
-        return Got {
+        return Ok(Got {
             reader: r,
             value: 0,
-        };
+        });
     }
-    let found = to_digit(buf, r);
-    digits(buf, found)
+    let found = to_digit(source, buf, r)?;
+    digits(source, buf, found)
 }
 
 // The next number, which must be below 2^32.
-pub fn word(buf: &mut [u8], r: Reader) -> GotWord {
-    let got = number(buf, r);
+pub fn word<S: Read>(source: &mut S, buf: &mut [u8], r: Reader) -> io::Result<GotWord> {
+    let got = number(source, buf, r)?;
     let reader = got.reader;
     let value = got.value;
     if value > 4294967295 {
-        return GotWord {
+        return Ok(GotWord {
             reader: spoilt(reader),
             value: 0,
-        };
+        });
     }
-    GotWord {
+    Ok(GotWord {
         reader,
         value: value as u32,
-    }
+    })
 }
 
 // The next number where one is wanted, and 0 where none is.
-pub fn number_if(is_wanted: bool, buf: &mut [u8], r: Reader) -> Got {
+pub fn number_if<S: Read>(
+    is_wanted: bool,
+    source: &mut S,
+    buf: &mut [u8],
+    r: Reader,
+) -> io::Result<Got> {
     if is_wanted {
-        return number(buf, r);
+        return number(source, buf, r);
     }
-    Got {
+    Ok(Got {
         reader: r,
         value: 0,
-    }
+    })
 }
 
 // Goes on to the first digit that begins a word, or to the end.
-fn to_digit(buf: &mut [u8], r: Reader) -> Reader {
+fn to_digit<S: Read>(source: &mut S, buf: &mut [u8], r: Reader) -> io::Result<Reader> {
     let mut reader = r;
     let mut in_word = false;
     let mut turns = u64::MAX;
     while turns > 0 {
-        reader = refilled(buf, reader);
+        reader = refilled(source, buf, reader)?;
         let b = byte(buf, reader);
         if b == NONE {
-            return ended(reader);
+            return Ok(ended(reader));
         }
         if is_digit(b) & !in_word {
-            return reader;
+            return Ok(reader);
         }
         in_word = 32 < b;
         reader = passed(reader);
         turns -= 1;
     }
-    reader
+    Ok(reader)
 }
 
 // The number whose digits stand next: 0 where there are none.
-fn digits(buf: &mut [u8], r: Reader) -> Got {
+fn digits<S: Read>(source: &mut S, buf: &mut [u8], r: Reader) -> io::Result<Got> {
     let mut n = Got {
         reader: r,
         value: 0,
     };
     let mut turns = u64::MAX;
     while turns > 0 {
-        let reader = refilled(buf, n.reader);
+        let reader = refilled(source, buf, n.reader)?;
         let b = byte(buf, reader);
         if !is_digit(b) {
-            return Got {
+            return Ok(Got {
                 reader,
                 value: n.value,
-            };
+            });
         }
         n = longer(passed(reader), n.value, b);
         turns -= 1;
     }
-    n
+    Ok(n)
 }
 
 // The number with one more digit. One of 2^64 or more spoils the reader.
@@ -182,17 +187,17 @@ fn passed(mut r: Reader) -> Reader {
 }
 
 // The reader with a byte to read, unless the input has ended.
-fn refilled(buf: &mut [u8], r: Reader) -> Reader {
+fn refilled<S: Read>(source: &mut S, buf: &mut [u8], r: Reader) -> io::Result<Reader> {
     if r.at < r.filled {
-        return r;
+        return Ok(r);
     }
-    let got = libc::read(STDIN_FILENO, buf);
-    Reader {
+    let filled = source.read(buf)?;
+    Ok(Reader {
         at: 0,
-        filled: io::count(got, buf),
+        filled,
         ended: r.ended,
         bad: r.bad,
-    }
+    })
 }
 
 // The byte that stands next.

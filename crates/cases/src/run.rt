@@ -4,7 +4,7 @@ use crate::reader::Reader;
 use crate::script::Case;
 use crate::writer::Writer;
 use crate::{reader, report, writer};
-use libc::STDOUT_FILENO;
+use std::io;
 
 // Where reading and writing stand. The run goes on while the reader is good.
 #[derive(Clone, Copy)]
@@ -21,27 +21,35 @@ pub fn begun() -> Run {
 }
 
 // Writes what a call leaves. Where there was no case, or none that could be read or replayed, the run ends.
-pub fn written(output: &mut [u8], arena: &[u32], w: Writer, case: Case, o: Outcome) -> Run {
+pub fn written(
+    rt: &impl Print,
+    output: &mut [u8],
+    arena: &[u32],
+    w: Writer,
+    case: Case,
+    o: Outcome,
+) -> io::Result<Run> {
     let reader = case.reader;
     if !reader::is_good(reader) {
-        return Run { reader, writer: w };
+        return Ok(Run { reader, writer: w });
     }
     if !o.is_known {
-        return Run {
+        return Ok(Run {
             reader: reader::spoilt(reader),
             writer: w,
-        };
+        });
     }
-    let first = report::answer(output, w, case.call, o);
-    let writer = report::slot_lines(output, first, arena, case.used);
-    Run { reader, writer }
+    let first = report::answer(rt, output, w, case.call, o)?;
+    let writer = report::slot_lines(rt, output, first, arena, case.used)?;
+    Ok(Run { reader, writer })
 }
 
 // Writes out what is left, and says so where the script could not be read.
-pub fn finish(output: &[u8], run: Run) {
+pub fn finish(rt: &impl Print, output: &[u8], run: Run) -> io::Result<()> {
     let reader = run.reader;
-    writer::flushed(output, run.writer);
+    writer::flushed(rt, output, run.writer)?;
     if reader.bad {
-        io::write_all(STDOUT_FILENO, b"unreadable\n");
+        rt.write_all(b"unreadable\n")?;
     }
+    Ok(())
 }

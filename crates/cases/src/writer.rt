@@ -1,7 +1,7 @@
 // Numbers and lines to standard output, through a buffer that is written out when it is nearly full.
-ghost use Rattle.std.specs.Prelude.{◌≡◌, ◌≤◌, length};
+ghost use Rattle.std.specs.Prelude.{◌≡◌, ◌≤◌, length, IfOk};
 
-use libc::STDOUT_FILENO;
+use std::io;
 
 // Where the next byte goes.
 #[derive(Clone, Copy)]
@@ -19,57 +19,57 @@ pub fn new() -> Writer
 }
 
 // Writes out what the buffer has.
-pub fn flushed(out: &[u8], w: Writer) -> Writer
-    ensures { result.at ≡ 0 }
+pub fn flushed(rt: &impl Print, out: &[u8], w: Writer) -> io::Result<Writer>
+    ensures { IfOk result (λ w. w.at ≡ 0) }
 {
     let at = w.at;
     if at <= out.len() {
-        io::write_all(STDOUT_FILENO, &out[0..at]);
+        rt.write_all(&out[0..at])?;
     }
-    new()
+    Ok(new())
 }
 
 // Number `i` of a line: only the first has no blank before it.
-pub fn nth(out: &mut [u8], w: Writer, i: usize, n: u64) -> Writer {
+pub fn nth(rt: &impl Print, out: &mut [u8], w: Writer, i: usize, n: u64) -> io::Result<Writer> {
     if i == 0 {
-        return number(out, w, n);
+        return number(rt, out, w, n);
     }
-    next(out, w, n)
+    next(rt, out, w, n)
 }
 
 // A number after a blank.
-pub fn next(out: &mut [u8], w: Writer, n: u64) -> Writer {
-    let after = byte(out, w, b' ');
-    number(out, after, n)
+pub fn next(rt: &impl Print, out: &mut [u8], w: Writer, n: u64) -> io::Result<Writer> {
+    let after = byte(rt, out, w, b' ')?;
+    number(rt, out, after, n)
 }
 
 // A number, in decimal.
-pub fn number(out: &mut [u8], w: Writer, n: u64) -> Writer {
-    let room = with_room(out, w);
+pub fn number(rt: &impl Print, out: &mut [u8], w: Writer, n: u64) -> io::Result<Writer> {
+    let room = with_room(rt, out, w)?;
     let from = room.at;
     let to = from + digits(n);
     spell(out, from, to, n);
-    Writer { at: to }
+    Ok(Writer { at: to })
 }
 
-pub fn byte(out: &mut [u8], w: Writer, b: u8) -> Writer {
-    let room = with_room(out, w);
+pub fn byte(rt: &impl Print, out: &mut [u8], w: Writer, b: u8) -> io::Result<Writer> {
+    let room = with_room(rt, out, w)?;
     let at = room.at;
     put(out, at, b);
-    Writer { at: at + 1 }
+    Ok(Writer { at: at + 1 })
 }
 
 // The writer with room for a number.
-fn with_room(out: &[u8], w: Writer) -> Writer
-    ensures { result.at ≤ length out.now }
+fn with_room(rt: &impl Print, out: &[u8], w: Writer) -> io::Result<Writer>
+    ensures { IfOk result (λ w. w.at ≤ length out.now) }
 {
     if w.at > out.len() {
-        return flushed(out, w);
+        return flushed(rt, out, w);
     }
     if out.len() - w.at < MOST_DIGITS {
-        return flushed(out, w);
+        return flushed(rt, out, w);
     }
-    w
+    Ok(w)
 }
 
 // How many digits a number has.

@@ -48,7 +48,9 @@ at_most_16 g (Plain a b) = omega arith
 at_most_16 g (Xor a b) = omega arith
 at_most_16 g (Ite c t e) = omega arith
 
-row_few : (shortcuts : Bool) (rows : List ℕ) (i : ℕ) (marks : List ℕ) → length (words (clauses_of (2 * i) (written_at shortcuts rows i marks))) + 16 * gates_below rows i ≤ 16 * gates_below rows (suc i)
+row_few :
+    (shortcuts : Bool) (rows : List ℕ) (i : ℕ) (marks : List ℕ) → length (words (clauses_of (2 * i) (written_at shortcuts rows i marks))) + 16 * gates_below rows i ≤ 16 * gates_below rows
+    (suc i)
 unfolding written_at count_below
 row_few shortcuts rows i marks = go (eqb (get_or marks i 0) 1) (gate_at rows i)
   where

@@ -39,5 +39,6 @@ shut_out = record {
 }
 
 pub tempting : Tempting
-unfolding complement edge_value is_leaf is_gate row_value value_below value mark_edges latch_root latch_roots is_xor ite_or pairing recognised shape_of operands clauses_of written_at walk clauses_in holds meets
+unfolding complement edge_value is_leaf is_gate row_value value_below value mark_edges latch_root latch_roots is_xor ite_or pairing recognised shape_of operands clauses_of written_at walk
+    clauses_in holds meets
 tempting = record { same_gate = refl; same_ids_xor = refl; same_ids_ite = refl; over_row_0 = refl; computes = refl; free_without = refl; not_free = refl }

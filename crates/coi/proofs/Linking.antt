@@ -26,7 +26,8 @@ module _ (latches : List ℕ) where
   -- latch k is next
   pub links_more : (k : ℕ) (marks : List ℕ) (x : ℕ) → x ≡ (latch_at latches k).input → x < length marks → Links latches k marks → Links latches (k + 1) (set marks x (k + 1))
   unfolding latch_of
-  links_more k marks x e l h = record { holds = λ i. ap (λ (m : ℕ). get_or (set marks x m) i 0) more ∙ (at i (eqb (latch_at latches k).input i) refl ∙ ap (λ (m : ℕ). latch_of latches m i) (sym more)) }
+  links_more k marks x e l h =
+      record { holds = λ i. ap (λ (m : ℕ). get_or (set marks x m) i 0) more ∙ (at i (eqb (latch_at latches k).input i) refl ∙ ap (λ (m : ℕ). latch_of latches m i) (sym more)) }
     where
       more : k + 1 ≡ suc k
       more = add-one k

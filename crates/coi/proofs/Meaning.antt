@@ -3,7 +3,7 @@
 use Prim.Native.Nat.{ℕ, suc, ◌+◌, ◌-◌, ◌<◌}
 use native.Mathlib.Omega.{arith}
 use mathlib.Core.Path.{◌≡◌, refl, sym, ◌∙◌}
-use mathlib.Core.Logic.{◌⊎◌, ⊎_elim}
+use mathlib.Core.Logic.{⊎_elim}
 use mathlib.Core.Bool.{Bool, true, false, cond, ◌&&◌}
 use mathlib.Core.List.Memᴰ
 use mathlib.Core.List.{List, [], ◌∷◌, ◌++◌}
@@ -71,7 +71,7 @@ module _ (rows latches : List ℕ) (at i : ℕ) where
       let p : at - 1 ≡ k = omega arith in
       rw (g, ne_eqb at 0 z, p) (Memᴰ.head refl)
 
--- ---- a well_formed graph of right sizes
+-- ---- a well-formed graph of right sizes
 module _ (g : Lent) (marks : ℕ) (s : Sized g marks) (w : WellFormed g) where
   abbrev used : ℕ
   used = g.counts.rows

@@ -39,7 +39,7 @@ pub record Links (latches : List ℕ) (n : ℕ) (marks : List ℕ) : Type 0 wher
 abbrev pub steps_by : List ℕ → List ℕ → List ℕ → ℕ → List ℕ
 steps_by rows latches marks i = steps_at rows latches (get_or marks i 0) i
 
--- what is known of the latches of a well_formed graph
+-- what is known of the latches of a well-formed graph
 pub record LatchesKnown (latches : List ℕ) (n used : ℕ) : Type 0 where
   pub long : latch_words * n ≤ length latches
   pub few : n ≤ max_entries

@@ -188,7 +188,8 @@ module _ (used : ℕ) (latches : List ℕ) where
       set_entry (nexts_mapped latches n map) (latch_at latches n).input (latch_at latches n).next (inr (u n (omega arith)))
       (λ y k. nexts_entry n map (λ j m. u j (omega arith)) h y (omega (arith, nexts_mapped_length latches n map))) x (omega (arith, nexts_mapped_length latches n map))
 
-  pub start_used : (n rows : ℕ) → 0 < used → ((j : ℕ) → j < n → id_of (latch_at latches j).next < used) → (x : ℕ) → x < length (start_map latches n rows) → Entry (get_or (start_map latches n rows) x 0)
+  pub start_used :
+      (n rows : ℕ) → 0 < used → ((j : ℕ) → j < n → id_of (latch_at latches j).next < used) → (x : ℕ) → x < length (start_map latches n rows) → Entry (get_or (start_map latches n rows) x 0)
   unfolding start_map
   start_used n rows some u x l =
       nexts_entry n (set (replicate rows none) 0 0) u

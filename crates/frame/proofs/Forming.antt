@@ -1,4 +1,4 @@
--- After a frame the target is a well_formed graph of right sizes, and another frame of the same graph can be added.
+-- After a frame the target is a well-formed graph of right sizes, and another frame of the same graph can be added.
 -- Assumes nothing.
 use Prim.Native.Nat.{ℕ, ◌+◌, ◌-◌, ◌*◌, ◌≤◌, ◌<◌}
 use native.Mathlib.Omega.{arith}

@@ -97,6 +97,6 @@ pub record FrameAdded (a b g : Lent) : Type 0 where
   pub ends : (j : ℕ) → j < b.counts.sets → get_or g.ends (a.counts.sets + j) 0 ≡ get_or b.ends j 0 + a.counts.edges
   pub edges : Grew (frame_between a b).map a.counts.edges a.edges b.edges b.counts.edges g.edges
   pub fairness : Grew (frame_between a b).map a.counts.fairness a.fairness b.fairness b.counts.fairness g.fairness
-  -- it is a well_formed graph of right sizes
+  -- it is a well-formed graph of right sizes
   pub sized : (marks : ℕ) → g.counts.rows ≤ marks → Sized g marks
   pub well_formed : WellFormed g

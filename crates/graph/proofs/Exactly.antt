@@ -74,7 +74,8 @@ module _ {sizes formed : Type 0} {fault : Given → Type 0} (refused : (p : Give
     zeroed = λ n. a.zeroed (λ z. n (one_first p (cond good done bad_argument) z));
   }
 
-  pub room_answers : {good : Bool} (room : Bool) → Answered sizes formed fault good true used marks p after → Answered sizes formed fault good room used marks (or_else p (cond room done no_room)) after
+  pub room_answers :
+      {good : Bool} (room : Bool) → Answered sizes formed fault good true used marks p after → Answered sizes formed fault good room used marks (or_else p (cond room done no_room)) after
   room_answers room a = record {
     exactly = then_room refused room a.exactly;
     untouched = λ z. a.untouched (one_only p (cond room done no_room) (never_one room no_room (λ (o : ◌≡◌ {A = ℕ} 5 1). omega arith)) z);
@@ -159,7 +160,7 @@ names_one p q (here i l b before) (later clean names) = absurd (false_true (sym 
 names_one p q (later clean names) (here j m c earlier) = absurd (false_true (sym c ∙ clean j m))
 names_one p q (later clean names) (later also others) = names_one p q names others
 
--- where the first graph is well_formed it has no fault
+-- where the first graph is well-formed it has no fault
 pub no_fault : {ss : List Stage} {p : Given} → AllClean ss → Names ss p → ⊥
 no_fault (more c all) (here i l b before) = false_true (sym b ∙ c i l)
 no_fault (more c all) (later clean names) = no_fault all names

@@ -1,4 +1,4 @@
--- `check` is exact: it accepts the well_formed graphs of right sizes, and its answer names the first fault of any other.
+-- `check` is exact: it accepts the well-formed graphs of right sizes, and its answer names the first fault of any other.
 -- Assumes nothing.
 use Prim.Native.Nat.{ℕ, zero, suc, ◌+◌, ◌-◌, ◌≤◌, ◌<◌}
 use native.Mathlib.Omega.{arith}
@@ -101,7 +101,7 @@ module _ (g : Lent) (w : WellFormed g) where
       last true e = eq-eqb _ _ (w.last s (eqb-true (s + 1) g.counts.sets e))
       last false e = refl
 
--- ---- nothing is bad exactly if the graph is well_formed
+-- ---- nothing is bad exactly if the graph is well-formed
 module _ (g : Lent) (m : ℕ) (size : Sized g m) where
   abbrev n : ℕ
   n = g.counts.inputs

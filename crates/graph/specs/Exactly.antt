@@ -8,7 +8,7 @@ use Rattle.graph.specs.Stages.{Names}
 use Rattle.graph.specs.Check.{stages, cleared}
 use Rattle.graph.specs.WellFormed.{WellFormed}
 
--- what is lent has right sizes, and is well_formed; `fault p`: p names the first fault; `good`: no argument is wrong; `room`: there is room for what the call would write.
+-- what is lent has right sizes, and is well-formed; `fault p`: p names the first fault; `good`: no argument is wrong; `room`: there is room for what the call would write.
 -- "Checks run in this order": each case says that those before it do not hold
 pub data Exactly (sizes formed : Type 0) (fault : Given → Type 0) (good room : Bool) : Given → Type 0 where
   -- 0

@@ -50,7 +50,7 @@ pub record WellFormed (g : Lent) : Type 0 where
 
 -- `check` gives each answer exactly in its case, and an answer 2 or 3 names the first fault.
 pub record Exact (g : Lent) (marks : List ℕ) : Type 0 where
-  -- 0: the sizes are right and the graph is well_formed
+  -- 0: the sizes are right and the graph is well-formed
   pub accepts : Sized g (length marks) → WellFormed g → (check_call g marks).given ≡ done
   pub accepted : (check_call g marks).given.number ≡ 0 → Sized g (length marks) × WellFormed g
   -- 1: the sizes are wrong
@@ -59,7 +59,7 @@ pub record Exact (g : Lent) (marks : List ℕ) : Type 0 where
   -- 2: the sizes are right, and not every used row is one
   pub refuses_row : Sized g (length marks) → (AllRows g.rows g.counts.rows → ⊥) → (check_call g marks).given.number ≡ 2
   pub refused_row : (check_call g marks).given.number ≡ 2 → Sized g (length marks) × (AllRows g.rows g.counts.rows → ⊥)
-  -- 3: sizes and rows are right, and the graph is not well_formed
+  -- 3: sizes and rows are right, and the graph is not well-formed
   pub refuses_entry : Sized g (length marks) → AllRows g.rows g.counts.rows → (WellFormed g → ⊥) → (check_call g marks).given.number ≡ 3
   pub refused_entry : (check_call g marks).given.number ≡ 3 → Sized g (length marks) × AllRows g.rows g.counts.rows × (WellFormed g → ⊥)
   -- the place: nothing before it is bad, and it is

@@ -49,7 +49,7 @@ pub fn no_counts() -> Counts
     }
 }
 
-// Is this a well_formed graph? Done, or 1, 2 or 3 with the place of the first fault.
+// Is this a well-formed graph? Done, or 1, 2 or 3 with the place of the first fault.
 pub fn check(
     rows: &[u32],
     inputs: &[u32],

@@ -130,7 +130,7 @@ module _ (latches : List ℕ) (x : ℕ) where
   unfolding input_edges
   on_input_edges = on_part (input_edges latches) (λ (k : ℕ). 2 * (nth k).input ∷ []) refl (λ n. refl) x
 
--- ---- a well_formed graph of right sizes
+-- ---- a well-formed graph of right sizes
 module _ (g : Lent) (marks : ℕ) (s : Sized g marks) (w : WellFormed g) where
   abbrev used : ℕ
   used = g.counts.rows

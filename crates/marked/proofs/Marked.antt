@@ -42,10 +42,11 @@ use Rattle.marked.specs.Marked.{EveryCaseHolds}
 
 -- every case of the table, by computation of the calls' own definitions
 pub marked : EveryCaseHolds
-unfolding or_else complement fits rows_fit is_false_row is_leaf is_gate is_row first_bad first_fault latch_inputs latch_set member free_leaf latch_edges sizes_right contents check_call larger check_two_call
-    count_below row_added first second folded add_gate add_and add_step steps all_of list_of eq_of constructor_answer counted call_of all_used gate_call list_call eq_call and3 not3 edge3 all_codes placed row3
-    rows3 codes_of arguments_right simulate_answer run_call mark_edges latch_roots args_call is_xor ite_or pairing recognised shape_of operands clauses_of words written_at walk clauses_in cnf_answer cnf_call
-    written renamed renamed_latch latches_written renumber limits_in fits_in place_from numbered number_of leaves_added gate_added gates_added rows_of reencoded asked_in reencode_checked reencode_call mapped
-    nexts_mapped start_map next_set nexts_set lists_grown frame_row frame_rows frame_of raised framed frame_fits start_is unroll_checked unroll_answer unroll_call seen_of table
+unfolding or_else complement fits rows_fit is_false_row is_leaf is_gate is_row first_bad first_fault latch_inputs latch_set member free_leaf latch_edges sizes_right contents check_call
+    larger check_two_call count_below row_added first second folded add_gate add_and add_step steps all_of list_of eq_of constructor_answer counted call_of all_used gate_call list_call eq_call
+    and3 not3 edge3 all_codes placed row3 rows3 codes_of arguments_right simulate_answer run_call mark_edges latch_roots args_call is_xor ite_or pairing recognised shape_of operands clauses_of
+    words written_at walk clauses_in cnf_answer cnf_call written renamed renamed_latch latches_written renumber limits_in fits_in place_from numbered number_of leaves_added gate_added
+    gates_added rows_of reencoded asked_in reencode_checked reencode_call mapped nexts_mapped start_map next_set nexts_set lists_grown frame_row frame_rows frame_of raised framed frame_fits
+    start_is unroll_checked unroll_answer unroll_call seen_of table
 marked =
     (refl, (refl, (refl, (refl, (refl, (refl, (refl, (refl, (refl, (refl, (refl, (refl, (refl, (refl, (refl, (refl, (refl, tt)))))))))))))))))

@@ -8,37 +8,38 @@ mod parts;
 mod rebuilds;
 mod seen;
 
-use libc::STDOUT_FILENO;
 use parts::{after, front, list, list_at, size, tail, word};
+use std::io;
 
 // How many words what is seen of a case may take.
 const ROOM: usize = 128;
 
-fn main() {
+fn main(rt: HostRuntime) -> io::Result<()> {
     let table = marked::words();
-    run(&table);
+    run(&rt, &table)
 }
 
 // Case after case.
-fn run(table: &[u32]) {
+fn run(rt: &impl Print, table: &[u32]) -> io::Result<()> {
     let mut at = 0;
     while at < table.len() {
-        say(list_at(table, at));
+        say(rt, list_at(table, at))?;
         at = after(table, at);
     }
+    Ok(())
 }
 
 // A line: which case it is, the call, what was seen, and whether the table has the same.
-fn say(case: &[u32]) {
+fn say(rt: &impl Print, case: &[u32]) -> io::Result<()> {
     let mut room = [0u32; ROOM];
     let head = list(case, 0);
     let n = made(case, word(head, 1), &mut room);
-    print(b"M");
-    io::print_decimal(STDOUT_FILENO, word(head, 0) as u64);
-    name(word(head, 1));
+    let number = word(head, 0);
+    print!(rt; "M{number}")?;
+    name(rt, word(head, 1))?;
     let seen = front(&room, n);
-    seen::say_lists(seen);
-    verdict(marked::same(seen, tail(case, 2 + size(head, 2))));
+    seen::say_lists(rt, seen)?;
+    verdict(rt, marked::same(seen, tail(case, 2 + size(head, 2))))
 }
 
 // Makes the call, whose number is that of oracle/FORMAT.md, and answers how many words say what is seen after it.
@@ -52,26 +53,26 @@ fn made(case: &[u32], call: u32, room: &mut [u32]) -> usize {
     }
 }
 
-fn name(call: u32) {
+fn name(rt: &impl Print, call: u32) -> io::Result<()> {
     match call {
-        51 => print(b" new_and_node"),
-        59 => print(b" new_eq_node"),
-        90 => print(b" ternary_simulate"),
-        100 => print(b" cnf"),
-        71 => print(b" reencode"),
-        80 => print(b" unroll"),
-        _ => print(b" unknown"),
+        51 => print(rt, b" new_and_node"),
+        59 => print(rt, b" new_eq_node"),
+        90 => print(rt, b" ternary_simulate"),
+        100 => print(rt, b" cnf"),
+        71 => print(rt, b" reencode"),
+        80 => print(rt, b" unroll"),
+        _ => print(rt, b" unknown"),
     }
 }
 
-fn verdict(agrees: bool) {
+fn verdict(rt: &impl Print, agrees: bool) -> io::Result<()> {
     if agrees {
-        print(b" | as expected\n");
+        print(rt, b" | as expected\n")
     } else {
-        print(b" | NOT AS EXPECTED\n");
+        print(rt, b" | NOT AS EXPECTED\n")
     }
 }
 
-fn print(text: &[u8]) {
-    io::write_all(STDOUT_FILENO, text);
+fn print(rt: &impl Print, text: &[u8]) -> io::Result<()> {
+    rt.write_all(text)
 }

@@ -2,7 +2,7 @@
 use crate::parts::{after, list_at};
 use edge::Answer;
 use graph::Counts;
-use libc::STDOUT_FILENO;
+use std::io;
 
 // Writes a word, where there is room, and answers the place after it.
 pub fn put(room: &mut [u32], at: usize, word: u32) -> usize {
@@ -75,24 +75,26 @@ pub fn word_of(size: usize) -> u32 {
 }
 
 // Prints the lists, each after a bar.
-pub fn say_lists(words: &[u32]) {
+pub fn say_lists(rt: &impl Print, words: &[u32]) -> io::Result<()> {
     let mut at = 0;
     while at < words.len() {
-        io::write_all(STDOUT_FILENO, b" |");
-        say_words(list_at(words, at));
+        rt.write_all(b" |")?;
+        say_words(rt, list_at(words, at))?;
         at = after(words, at);
     }
+    Ok(())
 }
 
-fn say_words(words: &[u32]) {
+fn say_words(rt: &impl Print, words: &[u32]) -> io::Result<()> {
     for i in 0..words.len() {
-        io::write_all(STDOUT_FILENO, b" ");
-        say_word(words[i]);
+        rt.write_all(b" ")?;
+        say_word(rt, words[i])?;
     }
+    Ok(())
 }
 
-fn say_word(word: u32) {
-    io::print_decimal(STDOUT_FILENO, word as u64);
+fn say_word(rt: &impl Print, word: u32) -> io::Result<()> {
+    print!(rt; "{word}")
 }
 
 fn wide(byte: u8) -> u32 {

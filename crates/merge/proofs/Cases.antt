@@ -40,12 +40,12 @@ rows_inputs_and_init : merge_call ours theirs (9 ∷ 9 ∷ 9 ∷ 9 ∷ [])
       graph = lent (false_word ∷ 0 ∷ none ∷ 0 ∷ 2 ∷ 3 ∷ none ∷ 0 ∷ none ∷ 0 ∷ []) (1 ∷ 4 ∷ []) (3 ∷ 8 ∷ 9 ∷ []) [] [] [] (1 ∷ 2 ∷ []) (4 ∷ 7 ∷ []) [] (counts 5 2 1 2);
       marks = 0 ∷ 0 ∷ 0 ∷ 9 ∷ [];
     }
-unfolding merge_call merge_checked check_two_call larger sizes_right rows_fit fits contents first_fault first_bad is_row is_false_row is_leaf is_gate free_leaf member latch_inputs latch_edges end_is set_of
-    or_else fits_in merged written renamed renamed_latch latches_written latch_set renumber shifted summed
+unfolding merge_call merge_checked check_two_call larger sizes_right rows_fit fits contents first_fault first_bad is_row is_false_row is_leaf is_gate free_leaf member latch_inputs
+    latch_edges end_is set_of or_else fits_in merged written renamed renamed_latch latches_written latch_set renumber shifted summed
 rows_inputs_and_init = refl
 
 -- the other way round there is no room, and nothing is changed
 no_room_behind : merge_call theirs ours (9 ∷ 9 ∷ 9 ∷ 9 ∷ []) ≡ record { given = no_room; graph = theirs; marks = 0 ∷ 0 ∷ 0 ∷ 9 ∷ [] }
-unfolding merge_call merge_checked check_two_call larger sizes_right rows_fit fits contents first_fault first_bad is_row is_false_row is_leaf is_gate free_leaf member latch_inputs latch_edges end_is set_of
-    or_else fits_in merged written renamed renamed_latch latches_written latch_set renumber shifted summed
+unfolding merge_call merge_checked check_two_call larger sizes_right rows_fit fits contents first_fault first_bad is_row is_false_row is_leaf is_gate free_leaf member latch_inputs
+    latch_edges end_is set_of or_else fits_in merged written renamed renamed_latch latches_written latch_set renumber shifted summed
 no_room_behind = refl

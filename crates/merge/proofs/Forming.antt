@@ -1,4 +1,4 @@
--- The whole is a well_formed graph of right sizes.
+-- The whole is a well-formed graph of right sizes.
 -- Assumes nothing.
 use Prim.Native.Nat.{ℕ, ◌+◌, ◌-◌, ◌≤◌, ◌<◌}
 use native.Mathlib.Omega.{arith}

@@ -33,7 +33,7 @@ pub record Whole (a b g : Lent) : Type 0 where
   pub second_inputs : (j : ℕ) → j < b.counts.inputs → get_or g.inputs (a.counts.inputs + j) 0 ≡ shifted (offset a) (get_or b.inputs j 0)
   pub first_lists : ListsKept a.counts (lists_of a) (lists_of g)
   pub second_lists : Renumbered (shifted (offset a)) a.counts (lists_of b) b.counts (lists_of g)
-  -- it is a well_formed graph of right sizes
+  -- it is a well-formed graph of right sizes
   pub sized : (marks : ℕ) → g.counts.rows ≤ marks → Sized g marks
   pub well_formed : WellFormed g
 

@@ -33,7 +33,8 @@ module _ (out list : List ℕ) where
   front n r =
       record {
         long = written_length out 0 (words_of list) n;
-        same = λ k l. let z : 0 + k ≡ k = omega arith in let t : get_or (written out 0 (words_of list) n) (0 + k) 0 ≡ get_or list k 0 = written_at_lem out 0 (words_of list) n k (omega arith) l in rw z at t;
+        same = λ k l. let z : 0 + k ≡ k = omega arith in let t : get_or (written out 0 (words_of list) n) (0 + k) 0 ≡ get_or list k 0 = written_at_lem out 0 (words_of list) n k (omega arith) l in rw
+            z at t;
         rest = λ k l. written_after out 0 (words_of list) n k (omega arith);
       }
 

@@ -1,4 +1,4 @@
--- A copy of a well_formed graph is well_formed, and its rows mean the same. It may have fewer constraints.
+-- A copy of a well-formed graph is well-formed, and its rows mean the same. It may have fewer constraints.
 -- Assumes nothing.
 use Prim.Native.Nat.{ℕ, zero, suc, ◌+◌, ◌*◌, ◌≤◌, ◌<◌}
 use native.Mathlib.Omega.{arith}

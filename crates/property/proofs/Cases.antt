@@ -38,14 +38,14 @@ all_in_one : compress_call bad (8 ∷ 8 ∷ 8 ∷ 8 ∷ []) (9 ∷ 9 ∷ 9 ∷ 9
       old = 2 ∷ 4 ∷ 2 ∷ 8 ∷ [];
       marks = 0 ∷ 0 ∷ 0 ∷ 9 ∷ [];
     }
-unfolding compress_call compress_checked change_checked compress_room or_of compressed one_bad or_else check_call sizes_right rows_fit fits contents first_fault first_bad is_row is_false_row is_leaf is_gate
-    free_leaf member latch_inputs latch_edges end_is set_of list_of all_of steps add_step add_and add_gate folded first second row_added complement copied written
+unfolding compress_call compress_checked change_checked compress_room or_of compressed one_bad or_else check_call sizes_right rows_fit fits contents first_fault first_bad is_row is_false_row
+    is_leaf is_gate free_leaf member latch_inputs latch_edges end_is set_of list_of all_of steps add_step add_and add_gate folded first second row_added complement copied written
 all_in_one = refl
 
 -- the room for the old bads is one short
 none_back : compress_call bad (8 ∷ 8 ∷ []) (9 ∷ 9 ∷ 9 ∷ 9 ∷ []) ≡ record { given = no_room; graph = bad; old = 8 ∷ 8 ∷ []; marks = 0 ∷ 0 ∷ 0 ∷ 9 ∷ [] }
-unfolding compress_call compress_checked change_checked compress_room or_of compressed one_bad or_else check_call sizes_right rows_fit fits contents first_fault first_bad is_row is_false_row is_leaf is_gate
-    free_leaf member latch_inputs latch_edges end_is set_of list_of all_of steps add_step add_and add_gate folded first second row_added complement
+unfolding compress_call compress_checked change_checked compress_room or_of compressed one_bad or_else check_call sizes_right rows_fit fits contents first_fault first_bad is_row is_false_row
+    is_leaf is_gate free_leaf member latch_inputs latch_edges end_is set_of list_of all_of steps add_step add_and add_gate folded first second row_added complement
 none_back = refl
 
 -- ---- three latches: the first's init is its own complement, the second's is true, the third's is the second latch
@@ -62,7 +62,7 @@ two_constraints :
           [] [] [] [] [] (counts 9 4 2 0);
       marks = 0 ∷ 0 ∷ 0 ∷ 0 ∷ [];
     }
-unfolding gate_init_call gate_init_checked change_checked gate_room gate_init gated_part gated_counts gated_all gate_steps gate_step constraint_of is_gated inits_taken initless latch_set or_else check_call
-    sizes_right rows_fit fits contents first_fault first_bad is_row is_false_row is_leaf is_gate free_leaf member latch_inputs latch_edges end_is set_of eq_of list_of all_of steps add_step add_and add_gate folded
-    first second row_added complement
+unfolding gate_init_call gate_init_checked change_checked gate_room gate_init gated_part gated_counts gated_all gate_steps gate_step constraint_of is_gated inits_taken initless latch_set
+    or_else check_call sizes_right rows_fit fits contents first_fault first_bad is_row is_false_row is_leaf is_gate free_leaf member latch_inputs latch_edges end_is set_of eq_of list_of all_of
+    steps add_step add_and add_gate folded first second row_added complement
 two_constraints = refl

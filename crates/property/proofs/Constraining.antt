@@ -77,7 +77,7 @@ module _ (p : Part) where
           let g : s ≡ gate_steps used p.latches (gating (leaf_added p.rows used) (used + 1) p.constraints p.counts.constraints) p.counts.latches = rw a at b in
           rw (some_gated n, w, c, f, g)
 
--- ---- where the sizes are right and the graph is well_formed, the steps can be made
+-- ---- where the sizes are right and the graph is well-formed, the steps can be made
 pub steps_ready : (g : Lent) (marks : ℕ) → Sized g marks → WellFormed g → StepsReady (g.counts.rows + 1) g.counts.rows g.latches g.counts.latches g.counts.constraints
 steps_ready g marks s w =
     let few : g.counts.rows ≤ max_rows = omega (arith, s.rows.fit.within, s.rows.fit.limited) in

@@ -1,4 +1,4 @@
--- The constraints say at the start that each latch has the value of its init, and the graph that they are added to stays well_formed.
+-- The constraints say at the start that each latch has the value of its init, and the graph that they are added to stays well-formed.
 -- Assumes nothing.
 use Prim.Native.Nat.{ℕ, ◌+◌, ◌-◌, ◌*◌, ◌≤◌, ◌<◌}
 use native.Mathlib.Omega.{arith}

@@ -36,7 +36,7 @@ pub fn set_next(latches: &mut [u32], i: usize, next: u32) -> Found
     records::next_through(latches, i, next)
 }
 
-// Is this a well_formed graph? The check over records.
+// Is this a well-formed graph? The check over records.
 pub fn check(
     rows: &[u32],
     inputs: &[u32],

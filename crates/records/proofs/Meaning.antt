@@ -54,18 +54,20 @@ own_back f own t = by_test (room_for t (words_of t))
     by_test false = refl
 
 -- all of the words' latches taken: the records hold the first words
-read_back : (words : List ℕ) (t : List Latch) (k : ℕ) → latch_words * (k + length t) ≤ length words → words_of (back_from all_taken k t words) ≡ take (latch_words * length t) (drop (latch_words * k) words)
+read_back :
+    (words : List ℕ) (t : List Latch) (k : ℕ) → latch_words * (k + length t) ≤ length words → words_of (back_from all_taken k t words) ≡ take (latch_words * length t)
+    (drop (latch_words * k) words)
 read_back words [] k h = refl
 read_back words (l ∷ t) k h =
     let at : ℕ = latch_words * k in
     let e : at + 1 ≡ suc at = omega arith in
     let f : at + 2 ≡ suc (suc at) = omega arith in
-    let three : drop at words ≡ get_or words at 0 ∷ (get_or words (suc at) 0 ∷ (get_or words (suc (suc at)) 0 ∷ drop (suc (suc (suc at))) words))
-    = drop-cons words at 0 (omega (arith, h))
-    ∙ ap (λ (z : List ℕ). get_or words at 0 ∷ z) (drop-cons words (suc at) 0 (omega (arith, h)) ∙ ap (λ (z : List ℕ). get_or words (suc at) 0 ∷ z) (drop-cons words (suc (suc at)) 0 (omega (arith, h)))) in
-    (λ j. get_or words at 0 ∷ (get_or words (e j) 0 ∷ (get_or words (f j) 0 ∷ read_back words t (suc k) (omega (arith, h)) j)))
-    ∙ ap (λ (n : ℕ). get_or words at 0 ∷ (get_or words (suc at) 0 ∷ (get_or words (suc (suc at)) 0 ∷ take (latch_words * length t) (drop n words)))) (thrice k)
-    ∙ sym (ap (λ (n : ℕ). take n (drop at words)) (thrice (length t)) ∙ ap (take (suc (suc (suc (latch_words * length t))))) three)
+    let three : drop at words ≡ get_or words at 0 ∷ (get_or words (suc at) 0 ∷ (get_or words (suc (suc at)) 0 ∷ drop (suc (suc (suc at))) words)) = drop-cons words at 0 (omega (arith, h)) ∙
+    ap (λ (z : List ℕ). get_or words at 0 ∷ z)
+    (drop-cons words (suc at) 0 (omega (arith, h)) ∙ ap (λ (z : List ℕ). get_or words (suc at) 0 ∷ z) (drop-cons words (suc (suc at)) 0 (omega (arith, h)))) in
+    (λ j. get_or words at 0 ∷ (get_or words (e j) 0 ∷ (get_or words (f j) 0 ∷ read_back words t (suc k) (omega (arith, h)) j))) ∙ ap
+    (λ (n : ℕ). get_or words at 0 ∷ (get_or words (suc at) 0 ∷ (get_or words (suc (suc at)) 0 ∷ take (latch_words * length t) (drop n words)))) (thrice k) ∙ sym
+    (ap (λ (n : ℕ). take n (drop at words)) (thrice (length t)) ∙ ap (take (suc (suc (suc (latch_words * length t))))) three)
 
 pub all_back : (t : List Latch) (words : List ℕ) → room_for t words ≡ true → words_of (records_back t words) ≡ take (latch_words * length t) words
 unfolding back

@@ -45,16 +45,16 @@ module _ (f : Latch → Latch → Latch) (words : List ℕ) where
     sofar_is zero h = refl
     sofar_is (suc i) h =
         let front : length (take i whole) ≡ i = length-take-le i whole (rw (back_length 0 t) (omega (arith, h))) in
-        let apart : sofar i ≡ take i whole ++ (get_or t i no_latch ∷ drop (suc i) t) = sofar_is i (omega (arith, h)) ∙ ap (λ (z : List Latch). take i whole ++ z) (drop-cons t i no_latch h) in
-        let old : get_or (sofar i) i no_latch ≡ get_or t i no_latch = ap (λ (z : List Latch). get_or z i no_latch) apart ∙ get_or_at (take i whole) (get_or t i no_latch) (drop (suc i) t) no_latch i front in
+        let apart : sofar i ≡ take i whole ++ (get_or t i no_latch ∷ drop (suc i) t) = sofar_is i (omega (arith, h)) ∙ ap (λ (z : List Latch). take i whole ++ z) (drop-cons t i no_latch h)
+        in
+        let old : get_or (sofar i) i no_latch ≡ get_or t i no_latch = ap (λ (z : List Latch). get_or z i no_latch) apart ∙ get_or_at (take i whole) (get_or t i no_latch) (drop (suc i) t)
+        no_latch i front in
         let n : 0 + i ≡ i = omega arith in
-        let new : f (get_or (sofar i) i no_latch) (latch_at words i) ≡ get_or whole i no_latch
-        = ap (λ (l : Latch). f l (latch_at words i)) old ∙ sym (back_at 0 t i h ∙ ap (λ (k : ℕ). f (get_or t i no_latch) (latch_at words k)) n) in
-        ap (λ (z : List Latch). set z i (f (get_or (sofar i) i no_latch) (latch_at words i))) apart
-        ∙ set_at (take i whole) (get_or t i no_latch) (drop (suc i) t) (f (get_or (sofar i) i no_latch) (latch_at words i)) i front
-        ∙ ap (λ (l : Latch). take i whole ++ (l ∷ drop (suc i) t)) new
-        ∙ sym (append_snoc (take i whole) (get_or whole i no_latch) (drop (suc i) t))
-        ∙ ap (λ (z : List Latch). z ++ drop (suc i) t) (sym (take-suc whole i no_latch (rw (back_length 0 t) h)))
+        let new : f (get_or (sofar i) i no_latch) (latch_at words i) ≡ get_or whole i no_latch = ap (λ (l : Latch). f l (latch_at words i)) old ∙ sym
+        (back_at 0 t i h ∙ ap (λ (k : ℕ). f (get_or t i no_latch) (latch_at words k)) n) in
+        ap (λ (z : List Latch). set z i (f (get_or (sofar i) i no_latch) (latch_at words i))) apart ∙ set_at (take i whole) (get_or t i no_latch) (drop (suc i) t)
+        (f (get_or (sofar i) i no_latch) (latch_at words i)) i front ∙ ap (λ (l : Latch). take i whole ++ (l ∷ drop (suc i) t)) new ∙ sym
+        (append_snoc (take i whole) (get_or whole i no_latch) (drop (suc i) t)) ∙ ap (λ (z : List Latch). z ++ drop (suc i) t) (sym (take-suc whole i no_latch (rw (back_length 0 t) h)))
 
     sofar_all : sofar (length t) ≡ back_from f 0 t words
     unfolding whole

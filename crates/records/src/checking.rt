@@ -52,7 +52,7 @@ fn check_words(
     answer
 }
 
-// Is this a well_formed graph? The work words hold three words a record while it is looked at.
+// Is this a well-formed graph? The work words hold three words a record while it is looked at.
 pub fn check(
     rows: &[u32],
     inputs: &[u32],

@@ -38,7 +38,7 @@ result = lent (false_word ∷ 0 ∷ none ∷ 0 ∷ none ∷ 0 ∷ []) (1 ∷ [])
 
 -- the answer, the whole graph and the marks
 pub m12 : reencode_call given room (7 ∷ 7 ∷ 7 ∷ []) ≡ record { given = done; graph = result; marks = 0 ∷ 0 ∷ 0 ∷ [] }
-unfolding reencode_call reencode_checked asked_in args_call or_else check_call contents first_fault first_bad sizes_right rows_fit fits member free_leaf latch_edges is_row is_false_row is_leaf is_gate end_is
-    set_of limits_in fits_in reencoded rows_of leaves_added gates_added gate_added row_added number_of numbered place_from count_below written latches_written latch_set renumber renamed renamed_latch
-    latch_inputs
+unfolding reencode_call reencode_checked asked_in args_call or_else check_call contents first_fault first_bad sizes_right rows_fit fits member free_leaf latch_edges is_row is_false_row
+    is_leaf is_gate end_is set_of limits_in fits_in reencoded rows_of leaves_added gates_added gate_added row_added number_of numbered place_from count_below written latches_written latch_set
+    renumber renamed renamed_latch latch_inputs
 m12 = refl

@@ -30,7 +30,7 @@ pub zero_no_leaf : (rows : List ℕ) → leaf_at rows 0 ≡ false
 unfolding is_leaf
 zero_no_leaf rows = refl
 
--- ---- of well_formed rows a leaf alone has the none word
+-- ---- of well-formed rows a leaf alone has the none word
 pub none_leaf : (rows : List ℕ) (used i : ℕ) → used ≤ max_rows → AllRows rows used → i < used → word0 rows i ≡ none → leaf_at rows i ≡ true
 unfolding is_row is_false_row is_gate
 none_leaf rows used i few all l e =

@@ -104,7 +104,7 @@ module _ (rows inputs latches : List ℕ) (n : Counts) (marks : List ℕ) (r : R
         ((λ x l. h x l ∙ same_number x l), d ∙ beyond),
       )
 
--- ---- a well_formed graph
+-- ---- a well-formed graph
 pub rows_ready : (g : Lent) (k : ℕ) → Sized g k → WellFormed g → (marks : List ℕ) → g.counts.rows ≤ length marks → MarksHold g.counts.rows (λ (_ : ℕ). 0) marks
     → RowsReady g.rows g.inputs g.latches g.counts marks
 rows_ready g k s w marks l z =

@@ -1,4 +1,4 @@
--- The result: rows are carried over with their values, every entry corresponds, and it is a well_formed graph.
+-- The result: rows are carried over with their values, every entry corresponds, and it is a well-formed graph.
 -- Assumes nothing.
 use Prim.Native.Nat.{ℕ, zero, ◌+◌, ◌-◌, ◌≤◌, ◌<◌}
 use native.Mathlib.Omega.{arith}
@@ -273,7 +273,7 @@ module _ (g out : Lent) (marks : ℕ) (s : Sized g marks) (w : WellFormed g) (no
       fitting : {long lent count limit : ℕ} → long ≡ lent → count ≤ lent → lent ≤ limit → Fit count long limit
       fitting e a b = record { within = omega arith; limited = omega arith }
 
-  -- ---- well_formed
+  -- ---- well-formed
   used_edges :
       (list after : List ℕ) (n : ℕ) → ((j : ℕ) → j < n → get_or after (0 + j) 0 ≡ renamed m (get_or list j 0)) → ((j : ℕ) → j < n → id_of (get_or list j 0) < used) → (j : ℕ) → j < n → id_of
       (get_or after j 0) < used

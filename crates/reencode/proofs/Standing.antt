@@ -117,4 +117,5 @@ module _ (m : ℕ → ℕ) (rows : List ℕ) (first : ℕ) (out : List ℕ) wher
       here n q room =
           let c : gates_below rows (i + 1) ≡ gates_below rows i + 1 = count_more (gate_at rows) i ∙ rw g in
           let room' : first + gates_below rows (i + 1) ≤ rows_lent out = rw (← q) room in
-          rw (q, added i (first + gates_below rows i) (gates_added m rows first out i), g) (row_new (gates_added m rows first out i) (first + gates_below rows i) (a i) (b i) (omega (arith, gates_long i)))
+          rw (q, added i (first + gates_below rows i) (gates_added m rows first out i), g)
+          (row_new (gates_added m rows first out i) (first + gates_below rows i) (a i) (b i) (omega (arith, gates_long i)))

@@ -12,7 +12,7 @@ use gates::add_row;
 use graph::latch::latch_at;
 use rows::kinds;
 
-// Of well_formed rows a leaf alone has the none word: nothing else need be asked.
+// Of well-formed rows a leaf alone has the none word: nothing else need be asked.
 pub fn count_leaves(rows: &[u32], used: usize) -> usize
     requires used_in_bounds { 2 * used ≤ length rows.now }
     requires used_le_max_rows { used ≤ max_rows }

@@ -47,7 +47,7 @@ result = lent (false_word ∷ 0 ∷ none ∷ 0 ∷ none ∷ 0 ∷ 2 ∷ 4 ∷ 7 
 pub two_rows_dropped :
     refine_call given room (7 ∷ 7 ∷ 7 ∷ 7 ∷ 7 ∷ []) (7 ∷ 7 ∷ 7 ∷ 7 ∷ 7 ∷ 7 ∷ 7 ∷ []) ≡ record
     { given = done; graph = result; old = 0 ∷ 2 ∷ 3 ∷ 4 ∷ 7 ∷ []; marks = 0 ∷ 0 ∷ 0 ∷ 0 ∷ 0 ∷ 0 ∷ 7 ∷ [] }
-unfolding refine_call refine_answer asked_in args_call or_else check_call contents first_fault first_bad sizes_right rows_fit fits member free_leaf latch_edges is_row is_false_row is_leaf is_gate end_is set_of
-    limits_in fits_in refined old_rows kept_flags refine_roots init_roots init_root latch_inputs searched drained visited_all visited steps_at latch_of kept_written row_put row_word kept_id with_kept count_below
-    written latches_written latch_set renumber renamed renamed_latch
+unfolding refine_call refine_answer asked_in args_call or_else check_call contents first_fault first_bad sizes_right rows_fit fits member free_leaf latch_edges is_row is_false_row is_leaf
+    is_gate end_is set_of limits_in fits_in refined old_rows kept_flags refine_roots init_roots init_root latch_inputs searched drained visited_all visited steps_at latch_of kept_written row_put
+    row_word kept_id with_kept count_below written latches_written latch_set renumber renamed renamed_latch
 two_rows_dropped = refl

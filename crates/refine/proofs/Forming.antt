@@ -1,4 +1,4 @@
--- The result is a well_formed graph of right sizes.
+-- The result is a well-formed graph of right sizes.
 -- Assumes nothing.
 use Prim.Native.Nat.{ℕ, ◌+◌, ◌-◌, ◌≤◌, ◌<◌}
 use native.Mathlib.Omega.{arith}
@@ -106,7 +106,9 @@ module _ (g out : Lent) (marks : ℕ) (s : Sized g marks) (w : WellFormed g) (ro
   edge_used : (e : ℕ) → id_of e < used → Kept g (id_of e) → id_of (renamed m e) < used'
   edge_used e l k = rw (renamed_row m e (λ (q : e ≡ none). absurd (omega (arith, limit g marks s w)))) (within g marks s w (id_of e) l k)
 
-  edges_used : (list after : List ℕ) (c : ℕ) → SameEntries m 0 list c after → ((j : ℕ) → j < c → id_of (get_or list j 0) < used) → KeptEdges g list c → (j : ℕ) → j < c → id_of (get_or after j 0) < used'
+  edges_used :
+      (list after : List ℕ) (c : ℕ) → SameEntries m 0 list c after → ((j : ℕ) → j < c → id_of (get_or list j 0) < used) → KeptEdges g list c → (j : ℕ) → j < c → id_of (get_or after j 0) <
+      used'
   edges_used list after c e u k j l =
       let z : 0 + j ≡ j = omega arith in
       let q : get_or after j 0 ≡ renamed m (get_or list j 0) = ap (λ (i : ℕ). get_or after i 0) (sym z) ∙ e j l in

@@ -32,7 +32,7 @@ use Rattle.kept_rows.proofs.Copying.{kept_same, row_put_same}
 use Rattle.kept_rows.proofs.Numbering.{numbered_kept, ids_hold, ids_long, ids_small, inputs_kept_lem}
 use Rattle.kept_rows.proofs.Reaching.{kept_coi, kept_is}
 
--- ---- a well_formed graph, whose marks are 0
+-- ---- a well-formed graph, whose marks are 0
 module _ (g : Lent) (marks : List ℕ) (r : RefineReady g marks) where
   pub flags_ready : FlagsReady g.rows g.latches g.constraints g.bads g.outputs g.edges g.fairness g.counts marks
   flags_ready =
@@ -74,7 +74,7 @@ module _ (g : Lent) (marks : List ℕ) (r : RefineReady g marks) where
     pub need_is : need ≡ refined_counts g
     need_is = e ∙ ap (λ (f : List ℕ). kept_counts f g.inputs g.counts) cone_is
 
--- ---- marks that hold the numbers of a well_formed graph's kept rows
+-- ---- marks that hold the numbers of a well-formed graph's kept rows
 module _ (g : Lent) (marks : List ℕ) (s : Sized g (length marks)) (w : WellFormed g) {after : List ℕ} (e : after ≡ new_ids (kept_flags g) ++ drop g.counts.rows marks) where
   first_kept : Flagged (kept_flags g) 0
   first_kept = (kept_coi g (length marks) s w).reached 0 always

@@ -1,4 +1,4 @@
--- The lists of a well_formed graph can be written by a map that the marks hold, and what is written is as the map's definition says.
+-- The lists of a well-formed graph can be written by a map that the marks hold, and what is written is as the map's definition says.
 -- Assumes nothing.
 use Prim.Native.Nat.{ℕ, zero, suc, ◌+◌, ◌-◌, ◌≤◌, ◌<◌, ◌^◌}
 use native.Mathlib.Omega.{arith}
@@ -22,7 +22,7 @@ use Rattle.renumber.specs.Steps.{MarksHold, Small, UsedLatch, UsedEdges, ListsUs
 use Rattle.output.proofs.Writing.{written_same}
 use Rattle.renumber.proofs.Writing.{all_lists}
 
--- ---- a well_formed graph
+-- ---- a well-formed graph
 module _ (g : Lent) (marks : ℕ) (s : Sized g marks) (w : WellFormed g) where
   -- no end is above the last
   end_within : (k j : ℕ) → j + (k + 1) ≡ g.counts.sets → get_or g.ends j 0 ≤ g.counts.edges

@@ -8,7 +8,6 @@ use lib.ListN.{length}
 use Rattle.graph.specs.declared.latch.Latch.{Latch}
 use Rattle.graph.specs.Latches.{latch_at, latch_set}
 use Rattle.graph.proofs.Latches.{latch_set_length}
-use Rattle.output.specs.Writing.{written}
 use Rattle.renumber.specs.Renumber.{renamed_latch, latches_written, Lists, lists}
 
 -- ---- latches

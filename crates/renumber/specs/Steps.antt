@@ -81,7 +81,7 @@ pub record UsedEdges (used : ℕ) (list : List ℕ) (n : ℕ) : Type 0 where
   pub has : n ≤ length list
   pub below : (j : ℕ) → j < n → id_of (get_or list j 0) < used
 
--- the lists of a well_formed graph of so many used rows
+-- the lists of a well-formed graph of so many used rows
 pub record ListsUsed (used : ℕ) (l : Lists) (n : Counts) : Type 0 where
   pub latches_has : latch_words * n.latches ≤ length l.latches
   pub latches : (j : ℕ) → j < n.latches → UsedLatch used (latch_at l.latches j)

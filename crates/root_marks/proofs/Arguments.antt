@@ -20,7 +20,6 @@ use Rattle.graph.specs.Graph.{Lent, Sized}
 use Rattle.graph.specs.Check.{cleared, CheckSeen, check_seen, check_call}
 use Rattle.graph.specs.WellFormed.{WellFormed}
 use Rattle.graph.specs.Exactly.{Answers}
-use Rattle.graph.proofs.Checked.{sized}
 use Rattle.graph.proofs.WellFormed.{exact}
 use Rattle.graph.proofs.Exactly.{argument_answers, check_answers, names_refused, own_answers}
 use Rattle.root_marks.specs.Arguments.{every, args_call}
@@ -94,7 +93,8 @@ module _ (room good : Bool) (g : Lent) (marks : List ℕ) where
     where
       go :
           (r : Bool) → room ≡ r →
-          ((cond {A = CheckSeen} r (record { given = or_else (check_call g marks).given (cond good done bad_argument); marks = (check_call g marks).marks }) (check_seen BadSizes marks)).given.number ≡ 1 → ⊥) → room ≡ true
+          ((cond {A = CheckSeen} r (record { given = or_else (check_call g marks).given (cond good done bad_argument); marks = (check_call g marks).marks })
+          (check_seen BadSizes marks)).given.number ≡ 1 → ⊥) → room ≡ true
       go true e h = e
       go false e h = absurd (h refl)
 

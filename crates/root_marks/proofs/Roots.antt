@@ -72,7 +72,8 @@ latch_good good latches (suc n) i h l =
     ⊎_elim (λ (e : i ≡ n). rw e t.1) (λ (k : i < n). latch_good good latches n i t.0 k) (eq-or-lt_of_le (omega arith))
 
 -- latch i is next
-pub latches_turn : (latches : List ℕ) (i : ℕ) (marks : List ℕ) → mark_edges (latch_roots latches (i + 1)) marks ≡ mark_edges (latch_root (latch_at latches i)) (mark_edges (latch_roots latches i) marks)
+pub latches_turn :
+    (latches : List ℕ) (i : ℕ) (marks : List ℕ) → mark_edges (latch_roots latches (i + 1)) marks ≡ mark_edges (latch_root (latch_at latches i)) (mark_edges (latch_roots latches i) marks)
 unfolding latch_roots
 latches_turn latches i marks =
     let e : i + 1 ≡ suc i = add-one i in
@@ -110,7 +111,7 @@ six good a b c d e f h =
     let t = every_both good e f s.1 in
     record { first = p.0; second = q.0; third = r.0; fourth = s.0; fifth = t.0; sixth = t.1 }
 
--- ---- the roots of a well_formed graph
+-- ---- the roots of a well-formed graph
 latches_good : (good : ℕ → Bool) (latches : List ℕ) (n : ℕ) → ((i : ℕ) → i < n → every good (latch_root (latch_at latches i)) ≡ true) → every good (latch_roots latches n) ≡ true
 unfolding latch_roots
 latches_good good latches zero h = unfold every in refl

@@ -6,7 +6,6 @@ use Rattle.graph.specs.declared.Counts.{Counts}
 use Rattle.graph.specs.declared.latch.Latch.{Latch}
 use Rattle.graph.specs.Latches.{latch_at}
 use Rattle.graph.specs.Graph.{Lent}
-use Rattle.root_marks.specs.Arguments.{every}
 
 -- a latch's next, and its init where it has one
 unfoldable pub latch_root : Latch → List ℕ

@@ -17,7 +17,7 @@ pub record RootsFit (latches constraints bads outputs edges fairness : List ℕ)
   pub edges_fit : n.edges ≤ length edges
   pub fairness_fit : n.fairness ≤ length fairness
 
--- what a well_formed graph's roots are known for
+-- what a well-formed graph's roots are known for
 pub record RootsKnown (g : Lent) : Type 0 where
   pub fit : RootsFit g.latches g.constraints g.bads g.outputs g.edges g.fairness g.counts
   pub used : every (used_edge g.counts.rows) (roots_of g) ≡ true

@@ -1,4 +1,4 @@
--- What rows mean, by the rules of the AIGER paper: variable 0 is false, an and_gate is the conjunction of its two literals, and an input or latch is a
+-- What rows mean, by the rules of the AIGER paper: variable 0 is false, an and-gate is the conjunction of its two literals, and an input or latch is a
 -- free variable.
 -- Assumes nothing.
 use Rattle.std.specs.Prelude.{ℕ, zero, suc, ◌≤◌, ◌<◌, List, ◌≡◌, Bool, true, false, cond, ◌&&◌}

@@ -78,7 +78,7 @@ is_listed g x = go (named (input_row g.inputs) g.counts.inputs x) (named (latch_
 one_place : (i j : ℕ) → (i < j → ⊥) → (j < i → ⊥) → i ≡ j
 one_place i j p q = ⊎_elim (λ l. absurd (p l)) (λ (h : j ≤ i). ⊎_elim (λ l. absurd (q l)) (λ (k : i ≤ j). omega arith) (lt_or_le j i)) (lt_or_le i j)
 
--- ---- a graph that is well_formed
+-- ---- a graph that is well-formed
 module _ (g : Lent) (m : ℕ) (size : Sized g m) (w : WellFormed g) where
   -- row i is row 0, a leaf or a gate
   pub row_kind : (P : Type 0) (i : ℕ) → i < g.counts.rows → (i ≡ 0 → P) → (leaf_at g.rows i ≡ true → P) → (gate_at g.rows i ≡ true → P) → P

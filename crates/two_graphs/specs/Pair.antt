@@ -32,9 +32,9 @@ pub record SizedTwo (a b : Lent) (marks : ℕ) : Type 0 where
   pub second : Sized b marks
 
 -- `check_two` gives each answer exactly in its case. Where it is 2 or 3, it is what `check` says of the first graph, or of the second where the first is
--- well_formed; so it names the first fault (`Exact`).
+-- well-formed; so it names the first fault (`Exact`).
 pub record ExactTwo (a b : Lent) (marks : List ℕ) : Type 0 where
-  -- 0: both are of right sizes and well_formed
+  -- 0: both are of right sizes and well-formed
   pub accepts : SizedTwo a b (length marks) → WellFormed a → WellFormed b → (check_two_call a b marks).given ≡ done
   pub accepted : (check_two_call a b marks).given.number ≡ 0 → SizedTwo a b (length marks) × WellFormed a × WellFormed b
   -- 1: the sizes of one are wrong

@@ -12,7 +12,7 @@ use graph::contents::check_contents;
 use graph::marks::clear;
 use graph::sizes::sizes;
 
-// Are both well_formed graphs? Done, or 1 for either, then 2 or 3 of the first, then of the second.
+// Are both well-formed graphs? Done, or 1 for either, then 2 or 3 of the first, then of the second.
 pub fn check_two(
     rows: &[u32],
     inputs: &[u32],

@@ -31,9 +31,9 @@ abbrev toggle : ℕ → Lent
 toggle next = lent (false_word ∷ 0 ∷ none ∷ 0 ∷ []) [] (1 ∷ next ∷ none ∷ []) [] [] [] [] [] [] (counts 2 0 0)
 
 pub m13 : unroll_call (toggle 3) (toggle 3) (9 ∷ 9 ∷ 9 ∷ []) ≡ record { given = done; graph = toggle 2; marks = 0 ∷ 0 ∷ 9 ∷ [] }
-unfolding unroll_call unroll_answer unroll_checked start_is check_two_call larger sizes_right rows_fit fits contents first_fault first_bad is_row is_false_row is_leaf is_gate free_leaf member latch_inputs
-    latch_edges end_is set_of or_else fits_in frame_fits framed raised frame_of frame_rows frame_row row_added first second folded add_gate add_and start_map nexts_mapped mapped complement lists_grown nexts_set
-    next_set latch_set written
+unfolding unroll_call unroll_answer unroll_checked start_is check_two_call larger sizes_right rows_fit fits contents first_fault first_bad is_row is_false_row is_leaf is_gate free_leaf
+    member latch_inputs latch_edges end_is set_of or_else fits_in frame_fits framed raised frame_of frame_rows frame_row row_added first second folded add_gate add_and start_map nexts_mapped
+    mapped complement lists_grown nexts_set next_set latch_set written
 m13 = refl
 
 -- ---- a latch 1 whose next is the gate 3 of it and the input 2, which is the output too; lent are rows and inputs for so much more
@@ -44,15 +44,15 @@ gate rows inputs next outputs used listed shown =
 -- the latch input goes to the next, 6; the input gets row 4; the gate becomes row 5, of 6 and 8; init stays
 pub one_frame : unroll_call (gate (7 ∷ 7 ∷ 7 ∷ 7 ∷ []) (7 ∷ []) 6 (7 ∷ []) 4 1 1) (gate [] [] 6 [] 4 1 1) (9 ∷ 9 ∷ 9 ∷ 9 ∷ [])
     ≡ record { given = done; graph = gate (none ∷ 0 ∷ 6 ∷ 8 ∷ []) (4 ∷ []) 10 (10 ∷ []) 6 2 2; marks = 0 ∷ 0 ∷ 0 ∷ 0 ∷ [] }
-unfolding unroll_call unroll_answer unroll_checked start_is check_two_call larger sizes_right rows_fit fits contents first_fault first_bad is_row is_false_row is_leaf is_gate free_leaf member latch_inputs
-    latch_edges end_is set_of or_else fits_in frame_fits framed raised frame_of frame_rows frame_row row_added first second folded add_gate add_and start_map nexts_mapped mapped complement lists_grown nexts_set
-    next_set latch_set written
+unfolding unroll_call unroll_answer unroll_checked start_is check_two_call larger sizes_right rows_fit fits contents first_fault first_bad is_row is_false_row is_leaf is_gate free_leaf
+    member latch_inputs latch_edges end_is set_of or_else fits_in frame_fits framed raised frame_of frame_rows frame_row row_added first second folded add_gate add_and start_map nexts_mapped
+    mapped complement lists_grown nexts_set next_set latch_set written
 one_frame = refl
 
 -- with a row less there is no room, and nothing is changed
 pub no_room_lem : unroll_call (gate (7 ∷ 7 ∷ []) (7 ∷ []) 6 (7 ∷ []) 4 1 1) (gate [] [] 6 [] 4 1 1) (9 ∷ 9 ∷ 9 ∷ 9 ∷ [])
     ≡ record { given = no_room; graph = gate (7 ∷ 7 ∷ []) (7 ∷ []) 6 (7 ∷ []) 4 1 1; marks = 0 ∷ 0 ∷ 0 ∷ 0 ∷ [] }
-unfolding unroll_call unroll_answer unroll_checked start_is check_two_call larger sizes_right rows_fit fits contents first_fault first_bad is_row is_false_row is_leaf is_gate free_leaf member latch_inputs
-    latch_edges end_is set_of or_else fits_in frame_fits framed raised frame_of frame_rows frame_row row_added first second folded add_gate add_and start_map nexts_mapped mapped complement lists_grown nexts_set
-    next_set latch_set written
+unfolding unroll_call unroll_answer unroll_checked start_is check_two_call larger sizes_right rows_fit fits contents first_fault first_bad is_row is_false_row is_leaf is_gate free_leaf
+    member latch_inputs latch_edges end_is set_of or_else fits_in frame_fits framed raised frame_of frame_rows frame_row row_added first second folded add_gate add_and start_map nexts_mapped
+    mapped complement lists_grown nexts_set next_set latch_set written
 no_room_lem = refl

@@ -12,7 +12,7 @@ use Rattle.frame.specs.Call.{SameStart, FrameReady}
 use Rattle.frame.specs.Meaning.{FrameAdded}
 use Rattle.unroll.specs.Unroll.{same_start, unroll_call}
 
--- both are well_formed graphs of right sizes
+-- both are well-formed graphs of right sizes
 pub record TwoGraphs (a b : Lent) (marks : ℕ) : Type 0 where
   pub sized : SizedTwo a b marks
   pub target : WellFormed a

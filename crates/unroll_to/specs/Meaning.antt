@@ -50,7 +50,7 @@ pub record Unrolls (g out : Lent) (n : ℕ) (marks : List ℕ) (r : Ran) : Type 
   -- done exactly where all frames are finished
   pub all : r.finished ≡ n → r.given ≡ done
   pub some : r.finished < n → r.given ≡ no_room
-  -- the result is sized and well_formed, and can be unrolled on
+  -- the result is sized and well-formed, and can be unrolled on
   pub ready : FrameReady r.graph g (length marks)
 
 -- the copy fits, and so does every frame

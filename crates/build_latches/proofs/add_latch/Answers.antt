@@ -11,7 +11,6 @@ use Rattle.graph.specs.Leaves.{latch_edges}
 use Rattle.build_leaves.proofs.Adding.{add_refused, add_done, Fits}
 use Rattle.build_latches.specs.Latches.{add_latch_call, latch_answer}
 use Rattle.build_latches.proofs.Adding.{latch_fits}
-use borrow.Author.Rules.{rules}
 use Rattle.build_latches.proofs.add_latch.Goals as goal
 use Rattle.build_latches.proofs.add_latch.Goals.{After-latch_answer-answer, Else-not-is_done}
 
@@ -27,9 +26,9 @@ room : (c : Else-not-is_done) → let a = c.args in Fits a.counts (latches_lent 
 room c =
     let a = c.args in
     let judged :
-            told c.latch_answer-answer.result
-            ≡ latch_answer a.rows.now (latches_lent a.latches.now) a.counts (ltb a.input a.counts.rows && latch_edges a.counts.rows (latch a.input a.next a.init)) true =
-        rw (← (c.latch_edges.ensures ∙ ap (latch_edges a.counts.rows) c.latch_of-l.ensures)) c.latch_answer-answer.ensures in
+    told c.latch_answer-answer.result
+    ≡ latch_answer a.rows.now (latches_lent a.latches.now) a.counts (ltb a.input a.counts.rows && latch_edges a.counts.rows (latch a.input a.next a.init)) true =
+    rw (← (c.latch_edges.ensures ∙ ap (latch_edges a.counts.rows) c.latch_of-l.ensures)) c.latch_answer-answer.ensures in
     latch_fits _ _ c.args.counts _ _ (test_done judged c.is_done.ensures c.if-not-is_done.false-raw)
 
 pub returns-then-not-is_done : goal.returns-then-not-is_done

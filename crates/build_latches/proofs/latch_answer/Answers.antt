@@ -1,6 +1,5 @@
 -- `build_latches::latch_answer` meets its contract.
 use Rattle.build_latches.specs.Latches.{latch_answer}
-use borrow.Author.Rules.{rules}
 use Rattle.build_latches.proofs.latch_answer.Goals as goal
 
 pub returns : goal.returns

@@ -10,7 +10,6 @@ use Rattle.build_leaves.proofs.Adding.{add_refused, add_done, Fits}
 use Rattle.build_leaves.specs.Leaves.{free_row}
 use Rattle.build_latches.specs.Latches.{new_latch_call, latch_answer}
 use Rattle.build_latches.proofs.Adding.{latch_fits, edges_of_lem}
-use borrow.Author.Rules.{rules}
 use Rattle.build_latches.proofs.new_latch.Goals as goal
 use Rattle.build_latches.proofs.new_latch.Goals.{After-latch_answer-answer, Else-not-is_done}
 
@@ -30,13 +29,13 @@ room : (c : Else-not-is_done) → let a = c.args in Fits a.counts (latches_lent 
 room c =
     let a = c.args in
     let judged :
-            told c.latch_answer-answer.result
-            ≡ latch_answer a.rows.now (latches_lent a.latches.now) a.counts (latch_edges a.counts.rows (latch a.counts.rows a.next a.init)) (free_row a.rows.now a.counts.rows) =
-        rw (
-          ← c.free_row-free.ensures,
-          edges_of_lem a.counts.rows a.counts.rows 0 a.next a.init,
-          ← (c.latch_edges-good.ensures ∙ ap (latch_edges a.counts.rows) c.latch_of.ensures),
-        ) c.latch_answer-answer.ensures in
+    told c.latch_answer-answer.result
+    ≡ latch_answer a.rows.now (latches_lent a.latches.now) a.counts (latch_edges a.counts.rows (latch a.counts.rows a.next a.init)) (free_row a.rows.now a.counts.rows) =
+    rw (
+      ← c.free_row-free.ensures,
+      edges_of_lem a.counts.rows a.counts.rows 0 a.next a.init,
+      ← (c.latch_edges-good.ensures ∙ ap (latch_edges a.counts.rows) c.latch_of.ensures),
+    ) c.latch_answer-answer.ensures in
     latch_fits _ _ c.args.counts _ _ (test_done judged c.is_done.ensures c.if-not-is_done.false-raw)
 
 pub returns-then-not-is_done : goal.returns-then-not-is_done

@@ -1,6 +1,5 @@
 -- `build_nodes::all_used` meets its contract.
 use Rattle.build_nodes.specs.Nodes.{all_used}
-use borrow.Author.Rules.{rules}
 use Rattle.build_nodes.proofs.all_used.Goals as goal
 
 pub returns-in-At : goal.returns-in-At

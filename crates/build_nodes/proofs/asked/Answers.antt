@@ -1,5 +1,4 @@
 -- `build_nodes::asked` meets its contract.
-use borrow.Author.Rules.{rules}
 use Rattle.build_nodes.proofs.asked.Goals as goal
 
 pub returns : goal.returns

@@ -4,7 +4,6 @@ use mathlib.Core.Path.{◌∙◌}
 use Rattle.build_nodes.specs.Nodes.{list_call}
 use Rattle.build_leaves.proofs.Answering.{built_seen_lem}
 use Rattle.build_nodes.proofs.Calling.{list_total, asked_fits, gate_refused, gate_full, gate_done}
-use borrow.Author.Rules.{rules}
 use Rattle.build_nodes.proofs.build_list.Goals as goal
 
 pub returns-then-not-is_done : goal.returns-then-not-is_done

@@ -5,7 +5,6 @@ use mathlib.Core.List.{[], ◌∷◌}
 use Rattle.build_nodes.specs.Nodes.{eq_call}
 use Rattle.build_leaves.proofs.Answering.{built_seen_lem}
 use Rattle.build_nodes.proofs.Calling.{eq_total, asked_fits, gate_refused, gate_full, gate_done}
-use borrow.Author.Rules.{rules}
 use Rattle.build_nodes.proofs.new_eq_node.Goals as goal
 
 pub returns-then-not-is_done : goal.returns-then-not-is_done

@@ -1,5 +1,4 @@
 -- `build_nodes::new_imply_node` meets its contract.
-use borrow.Author.Rules.{rules}
 use Rattle.build_nodes.proofs.new_imply_node.Goals as goal
 
 pub returns : goal.returns

@@ -1,11 +1,9 @@
 -- `cnf::gates_below` meets its contract.
-use Prim.Native.Nat.{◌-◌, ◌≤◌}
 use native.Mathlib.Omega.{arith}
 use native.Mathlib.Nat.{le_antisymm}
-use mathlib.Core.Path.{◌≡◌, refl, sym, ◌∙◌}
-use mathlib.Core.Logic.{⊎_elim}
+use mathlib.Core.Path.{refl, sym, ◌∙◌}
 use Rattle.rows.specs.Rows.{gate_at}
-use Rattle.graph.specs.Count.{count_below, gates_below}
+use Rattle.graph.specs.Count.{count_below}
 use Rattle.graph.proofs.Counting.{count_taken, count_left, count_small}
 use borrow.Author.Rules.{rules}
 use Rattle.cnf.proofs.gates_below.Goals as goal
@@ -26,7 +24,7 @@ loop-i-preserved c =
     let gate = gate_at c.args.rows.now in (
       search rules,
       elim c.if-is_gate.branch [
-        then-is_gate w ↦ count_taken gate l.i l.invariant.1 (sym c.is_gate.ensures ∙ w.if-is_gate.true) w.gates-is
+        | then-is_gate w ↦ count_taken gate l.i l.invariant.1 (sym c.is_gate.ensures ∙ w.if-is_gate.true) w.gates-is
         | else-is_gate w ↦ count_left gate l.i l.invariant.1 (sym c.is_gate.ensures ∙ w.if-is_gate.false) w.gates-is
       ],
     )

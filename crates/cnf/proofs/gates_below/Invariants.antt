@@ -1,12 +1,6 @@
 use Prim.Native.Nat.{◌-◌, ◌≤◌}
-use native.Mathlib.Omega.{arith}
-use native.Mathlib.Nat.{le_antisymm}
-use mathlib.Core.Path.{◌≡◌, refl, sym, ◌∙◌}
-use mathlib.Core.Logic.{⊎_elim}
-use Rattle.rows.specs.Rows.{gate_at}
-use Rattle.graph.specs.Count.{count_below, gates_below}
-use Rattle.graph.proofs.Counting.{count_taken, count_left, count_small}
-use borrow.Author.Rules.{rules}
+use mathlib.Core.Path.{◌≡◌}
+use Rattle.graph.specs.Count.{gates_below}
 use Rattle.cnf.proofs.gates_below.Given as goal
 
 abbrev pub invariant-loop-i : goal.invariant-loop-i

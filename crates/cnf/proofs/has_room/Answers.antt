@@ -2,11 +2,9 @@
 use native.Mathlib.Omega.{arith}
 use Prim.Native.Nat.{ℕ}
 use mathlib.Core.Path.{refl, ap}
-use mathlib.Core.List.{List}
 use lib.Dec.{leb}
 use Rattle.root_marks.specs.Roots.{roots_in}
 use Rattle.cnf.proofs.Calling.{room_for_most, room_for_gates, gates_few}
-use borrow.Author.Rules.{rules}
 use Rattle.cnf.proofs.has_room.Goals as goal
 
 pub overflow_sub-most : goal.overflow_sub-most

@@ -1,11 +1,7 @@
 -- `cnf::put_words` meets its contract.
 use native.Mathlib.Omega.{arith}
-use Prim.Native.Nat.{ℕ}
-use mathlib.Core.Path.{◌∙◌}
-use mathlib.Core.List.{List}
 use Rattle.root_marks.specs.Roots.{roots_in}
 use Rattle.cnf.proofs.Calling.{marked_long, number, written, back}
-use borrow.Author.Rules.{rules}
 use Rattle.cnf.proofs.put_words.Goals as goal
 
 pub mark_roots-requires : goal.mark_roots-requires
@@ -15,7 +11,8 @@ pub put_rows-end-requires : goal.put_rows-end-requires
 put_rows-end-requires c =
     let roots = roots_in c.args.latches.now c.args.constraints.now c.args.bads.now c.args.outputs.now c.args.edges.now c.args.fairness.now c.args.counts in
     let a = c.args in
-    let long = marked_long a.shortcuts a.rows.now roots a.marks.now c.requires.clauses_ready c.mark_roots.ensures in record { marks_in_bounds = omega (arith, long, c.requires.clauses_ready.rows_there); marks_len_bound = omega (arith, long, c.requires.clauses_ready.rows_few) }
+    let long = marked_long a.shortcuts a.rows.now roots a.marks.now c.requires.clauses_ready c.mark_roots.ensures in
+    record { marks_in_bounds = omega (arith, long, c.requires.clauses_ready.rows_there); marks_len_bound = omega (arith, long, c.requires.clauses_ready.rows_few) }
 
 pub returns : goal.returns
 returns c =

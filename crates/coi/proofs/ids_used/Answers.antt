@@ -1,12 +1,8 @@
 -- `coi::ids_used` meets its contract.
-use Prim.Native.Nat.{◌-◌, ◌≤◌}
 use native.Mathlib.Omega.{arith}
-use mathlib.Core.Path.{◌≡◌, refl, sym, ◌∙◌}
-use lib.ListN.{length, drop}
+use mathlib.Core.Path.{refl, sym, ◌∙◌}
 use borrow.Author.Tests.{lt-ltb, le-ltb}
-use Rattle.root_marks.specs.Arguments.{every}
 use Rattle.root_marks.proofs.Arguments.{every_end, every_stops, every_goes}
-use Rattle.coi.specs.Coi.{used_row}
 use borrow.Author.Rules.{rules}
 use Rattle.coi.proofs.ids_used.Goals as goal
 

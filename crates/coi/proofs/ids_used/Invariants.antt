@@ -1,12 +1,8 @@
 use Prim.Native.Nat.{◌-◌, ◌≤◌}
-use native.Mathlib.Omega.{arith}
-use mathlib.Core.Path.{◌≡◌, refl, sym, ◌∙◌}
+use mathlib.Core.Path.{◌≡◌}
 use lib.ListN.{length, drop}
-use borrow.Author.Tests.{lt-ltb, le-ltb}
 use Rattle.root_marks.specs.Arguments.{every}
-use Rattle.root_marks.proofs.Arguments.{every_end, every_stops, every_goes}
 use Rattle.coi.specs.Coi.{used_row}
-use borrow.Author.Rules.{rules}
 use Rattle.coi.proofs.ids_used.Given as goal
 
 abbrev pub invariant-loop-k : goal.invariant-loop-k

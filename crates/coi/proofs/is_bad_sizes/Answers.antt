@@ -1,5 +1,4 @@
 -- `coi::is_bad_sizes` meets its contract.
-use borrow.Author.Rules.{rules}
 use Rattle.coi.proofs.is_bad_sizes.Goals as goal
 
 pub returns : goal.returns

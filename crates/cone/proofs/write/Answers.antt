@@ -1,7 +1,5 @@
 -- `cone::write` meets its contract.
-use mathlib.Core.Path.{◌∙◌}
 use Rattle.cone.proofs.Marking.{still_used, cone_written}
-use borrow.Author.Rules.{rules}
 use Rattle.cone.proofs.write.Goals as goal
 
 pub mark_edges-requires : goal.mark_edges-requires

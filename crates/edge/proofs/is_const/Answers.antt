@@ -1,5 +1,4 @@
 -- `edge::is_const` meets its contract.
-use borrow.Author.Rules.{rules}
 use Rattle.edge.proofs.is_const.Goals as goal
 
 pub returns : goal.returns

@@ -1,5 +1,4 @@
 -- `edge::is_constant` meets its contract.
-use borrow.Author.Rules.{rules}
 use Rattle.edge.proofs.is_constant.Goals as goal
 
 pub returns : goal.returns

@@ -1,7 +1,6 @@
 -- `edge::map` meets its contract.
 use borrow.Author.Tests.{lt-ltb, le-ltb}
 use Rattle.edge.specs.Edges.{map_call}
-use borrow.Author.Rules.{rules}
 use Rattle.edge.proofs.map.Goals as goal
 
 pub returns-then-map-i : goal.returns-then-map-i

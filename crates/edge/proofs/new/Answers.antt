@@ -2,7 +2,6 @@
 use borrow.Author.Tests.{lt-leb, le-leb}
 use Rattle.edge.specs.Edges.{new_call}
 use Rattle.edge.proofs.Meaning.{even_signed}
-use borrow.Author.Rules.{rules}
 use Rattle.edge.proofs.new.Goals as goal
 
 pub returns-then-id-gt-MAX_ID : goal.returns-then-id-gt-MAX_ID

@@ -1,7 +1,6 @@
 -- `edge::not` meets its contract.
 use mathlib.Core.Path.{sym}
 use Rattle.edge.proofs.Meaning.{complement_parts}
-use borrow.Author.Rules.{rules}
 use Rattle.edge.proofs.not.Goals as goal
 
 pub returns : goal.returns

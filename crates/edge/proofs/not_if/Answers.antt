@@ -1,5 +1,4 @@
 -- `edge::not_if` meets its contract.
-use borrow.Author.Rules.{rules}
 use Rattle.edge.proofs.not_if.Goals as goal
 
 pub returns-then-flip : goal.returns-then-flip

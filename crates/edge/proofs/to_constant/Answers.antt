@@ -1,5 +1,4 @@
 -- `edge::to_constant` meets its contract.
-use borrow.Author.Rules.{rules}
 use Rattle.edge.proofs.to_constant.Goals as goal
 
 pub returns-in-True : goal.returns-in-True

@@ -13,7 +13,9 @@ slice_bounds-start_map-end-2 c =
     omega (arith, part_long a.counts2.rows a.marks.now c.requires.rows_nonzero.2)
 
 pub start_map-requires : goal.start_map-requires
-start_map-requires c = let a = c.args in rw (part_long a.counts2.rows a.marks.now c.requires.rows_nonzero.2) record { map_nonzero = c.requires.rows_nonzero.0; latches_within = c.requires.latches_within }
+start_map-requires c =
+    let a = c.args in
+    rw (part_long a.counts2.rows a.marks.now c.requires.rows_nonzero.2) record { map_nonzero = c.requires.rows_nonzero.0; latches_within = c.requires.latches_within }
 
 pub slice_bounds-new_leaves-end-2 : goal.slice_bounds-new_leaves-end-2
 slice_bounds-new_leaves-end-2 c =

@@ -8,10 +8,10 @@ use Rattle.frame.proofs.Ready.{addable, latches_within, from_words, few, lists_r
 use Rattle.frame.proofs.write_frame.Goals as goal
 use Rattle.frame.proofs.write_frame.Goals.{Start}
 
-right : (c : Start) →
-    let one = lent c.args.rows.now c.args.inputs.now c.args.latches.now c.args.constraints.now c.args.bads.now c.args.outputs.now c.args.ends.now c.args.edges.now c.args.fairness.now c.args.counts in
-    let other = lent c.args.rows2.now c.args.inputs2.now c.args.latches2.now c.args.constraints2.now c.args.bads2.now c.args.outputs2.now c.args.ends2.now c.args.edges2.now c.args.fairness2.now c.args.counts2 in
-    FrameRoom one other (length c.args.marks.now)
+right :
+    (c : Start) → let one = lent c.args.rows.now c.args.inputs.now c.args.latches.now c.args.constraints.now c.args.bads.now c.args.outputs.now c.args.ends.now c.args.edges.now
+    c.args.fairness.now c.args.counts in let other = lent c.args.rows2.now c.args.inputs2.now c.args.latches2.now c.args.constraints2.now c.args.bads2.now c.args.outputs2.now
+    c.args.ends2.now c.args.edges2.now c.args.fairness2.now c.args.counts2 in FrameRoom one other (length c.args.marks.now)
 right c = c.requires
 
 pub slice_bounds-frame_of-end : goal.slice_bounds-frame_of-end
@@ -22,10 +22,15 @@ slice_bounds-frame_of-end-2 c = omega (arith, part_long c.args.counts2.rows c.ar
 
 pub frame_of-reached-requires : goal.frame_of-reached-requires
 frame_of-reached-requires c =
-    let one = lent c.args.rows.now c.args.inputs.now c.args.latches.now c.args.constraints.now c.args.bads.now c.args.outputs.now c.args.ends.now c.args.edges.now c.args.fairness.now c.args.counts in
-    let other = lent c.args.rows2.now c.args.inputs2.now c.args.latches2.now c.args.constraints2.now c.args.bads2.now c.args.outputs2.now c.args.ends2.now c.args.edges2.now c.args.fairness2.now c.args.counts2 in
+    let one = lent c.args.rows.now c.args.inputs.now c.args.latches.now c.args.constraints.now c.args.bads.now c.args.outputs.now c.args.ends.now c.args.edges.now c.args.fairness.now
+    c.args.counts in
+    let other = lent c.args.rows2.now c.args.inputs2.now c.args.latches2.now c.args.constraints2.now c.args.bads2.now c.args.outputs2.now c.args.ends2.now c.args.edges2.now
+    c.args.fairness2.now c.args.counts2 in
     let a = c.args in
-    let r = (right (goal.at.frame_of-reached-requires c).Start).ready in rw (part_long a.counts2.rows a.marks.now r.from.marked) record { all_rows = r.from_formed.rows; map_nonzero = (r.from.rows.some, from_words one other _ r, few one other _ r); rows_le_max_rows = ((addable one _ r.target).rows, (addable one _ r.target).inputs); latches_within = latches_within one other _ r }
+    let r = (right (goal.at.frame_of-reached-requires c).Start).ready in
+    rw (part_long a.counts2.rows a.marks.now r.from.marked) record
+    {all_rows = r.from_formed.rows; map_nonzero = (r.from.rows.some, from_words one other _ r, few one other _ r);
+    rows_le_max_rows = ((addable one _ r.target).rows, (addable one _ r.target).inputs); latches_within = latches_within one other _ r }
 
 pub slice_bounds-grow_lists-end : goal.slice_bounds-grow_lists-end
 slice_bounds-grow_lists-end c =
@@ -43,8 +48,10 @@ slice_bounds-grow_lists-end-2 c =
 
 pub grow_lists-requires : goal.grow_lists-requires
 grow_lists-requires c =
-    let one = lent c.args.rows.now c.args.inputs.now c.args.latches.now c.args.constraints.now c.args.bads.now c.args.outputs.now c.args.ends.now c.args.edges.now c.args.fairness.now c.args.counts in
-    let other = lent c.args.rows2.now c.args.inputs2.now c.args.latches2.now c.args.constraints2.now c.args.bads2.now c.args.outputs2.now c.args.ends2.now c.args.edges2.now c.args.fairness2.now c.args.counts2 in
+    let one = lent c.args.rows.now c.args.inputs.now c.args.latches.now c.args.constraints.now c.args.bads.now c.args.outputs.now c.args.ends.now c.args.edges.now c.args.fairness.now
+    c.args.counts in
+    let other = lent c.args.rows2.now c.args.inputs2.now c.args.latches2.now c.args.constraints2.now c.args.bads2.now c.args.outputs2.now c.args.ends2.now c.args.edges2.now
+    c.args.fairness2.now c.args.counts2 in
     let a = c.args in
     let h = (right (goal.at.grow_lists-requires c).Start).ready.from.marked in
     let m = c.frame_of-reached.new.map in
@@ -60,14 +67,22 @@ clear-requires c =
 
 pub raised-requires : goal.raised-requires
 raised-requires c =
-    let one = lent c.args.rows.now c.args.inputs.now c.args.latches.now c.args.constraints.now c.args.bads.now c.args.outputs.now c.args.ends.now c.args.edges.now c.args.fairness.now c.args.counts in
-    let other = lent c.args.rows2.now c.args.inputs2.now c.args.latches2.now c.args.constraints2.now c.args.bads2.now c.args.outputs2.now c.args.ends2.now c.args.edges2.now c.args.fairness2.now c.args.counts2 in
-    let r = (right (goal.at.raised-requires c).Start).ready in record { addable = addable one _ r.target; addable_2 = addable other _ r.from }
+    let one = lent c.args.rows.now c.args.inputs.now c.args.latches.now c.args.constraints.now c.args.bads.now c.args.outputs.now c.args.ends.now c.args.edges.now c.args.fairness.now
+    c.args.counts in
+    let other = lent c.args.rows2.now c.args.inputs2.now c.args.latches2.now c.args.constraints2.now c.args.bads2.now c.args.outputs2.now c.args.ends2.now c.args.edges2.now
+    c.args.fairness2.now c.args.counts2 in
+    let r = (right (goal.at.raised-requires c).Start).ready in
+    record { addable = addable one _ r.target; addable_2 = addable other _ r.from }
 
 pub returns : goal.returns
 returns c =
-    let one = lent c.args.rows.now c.args.inputs.now c.args.latches.now c.args.constraints.now c.args.bads.now c.args.outputs.now c.args.ends.now c.args.edges.now c.args.fairness.now c.args.counts in
-    let other = lent c.args.rows2.now c.args.inputs2.now c.args.latches2.now c.args.constraints2.now c.args.bads2.now c.args.outputs2.now c.args.ends2.now c.args.edges2.now c.args.fairness2.now c.args.counts2 in
+    let one = lent c.args.rows.now c.args.inputs.now c.args.latches.now c.args.constraints.now c.args.bads.now c.args.outputs.now c.args.ends.now c.args.edges.now c.args.fairness.now
+    c.args.counts in
+    let other = lent c.args.rows2.now c.args.inputs2.now c.args.latches2.now c.args.constraints2.now c.args.bads2.now c.args.outputs2.now c.args.ends2.now c.args.edges2.now
+    c.args.fairness2.now c.args.counts2 in
     let a = c.args in
     let h = (right (goal.at.returns c).Start).ready.from.marked in
-    let k = c.frame_of-reached.auto.map ∙ part_long a.counts2.rows a.marks.now h in record { result_after = whole one other a.marks.now h c.frame_of-reached.ensures c.grow_lists.ensures c.raised.ensures; marks_after = c.clear.ensures ∙ map_cleared a.counts2.rows a.marks.now h c.frame_of-reached.new.map k }
+    let k = c.frame_of-reached.auto.map ∙ part_long a.counts2.rows a.marks.now h in
+    record
+    {result_after = whole one other a.marks.now h c.frame_of-reached.ensures c.grow_lists.ensures c.raised.ensures;
+    marks_after = c.clear.ensures ∙ map_cleared a.counts2.rows a.marks.now h c.frame_of-reached.new.map k }

@@ -1,6 +1,5 @@
 -- `gate_clauses::is_xor` meets its contract.
 use Rattle.gate_clauses.specs.Shapes.{is_xor}
-use borrow.Author.Rules.{rules}
 use Rattle.gate_clauses.proofs.is_xor.Goals as goal
 
 pub returns : goal.returns

@@ -1,6 +1,5 @@
 -- `gate_clauses::ite_or` meets its contract.
 use Rattle.gate_clauses.proofs.Recognising.{ite_not, ite_is}
-use borrow.Author.Rules.{rules}
 use Rattle.gate_clauses.proofs.ite_or.Goals as goal
 
 pub returns-then-i-j : goal.returns-then-i-j

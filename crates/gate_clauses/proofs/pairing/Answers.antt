@@ -1,6 +1,5 @@
 -- `gate_clauses::pairing` meets its contract.
 use Rattle.gate_clauses.proofs.Recognising.{equal, unequal, pairs₁, pairs₂, pairs₃, pairs₄, pairs_not}
-use borrow.Author.Rules.{rules}
 use Rattle.gate_clauses.proofs.pairing.Goals as goal
 
 pub returns-then-a-not : goal.returns-then-a-not

@@ -1,6 +1,5 @@
 -- `gate_clauses::recognised` meets its contract.
 use Rattle.gate_clauses.proofs.Recognising.{xor_first, then_ite}
-use borrow.Author.Rules.{rules}
 use Rattle.gate_clauses.proofs.recognised.Goals as goal
 
 pub returns-then-is_xor : goal.returns-then-is_xor

@@ -1,6 +1,5 @@
 -- `gate_clauses::shape_of` meets its contract.
 use Rattle.gate_clauses.proofs.Recognising.{shape_off, shape_plain, shape_inner}
-use borrow.Author.Rules.{rules}
 use Rattle.gate_clauses.proofs.shape_of.Goals as goal
 
 pub returns-then-not-shortcuts : goal.returns-then-not-shortcuts

@@ -2,7 +2,6 @@
 use mathlib.Core.Path.{◌∙◌}
 use Rattle.gates.proofs.Ordering.{ordered}
 use Rattle.gates.proofs.Building.{and_to, and_gate}
-use borrow.Author.Rules.{rules}
 use Rattle.gates.proofs.add_and.Goals as goal
 
 pub folded-requires : goal.folded-requires

@@ -1,6 +1,5 @@
 -- `gates::add_gate` meets its contract.
 use Rattle.gates.proofs.Building.{gate_added_lem}
-use borrow.Author.Rules.{rules}
 use Rattle.gates.proofs.add_gate.Goals as goal
 
 pub returns : goal.returns

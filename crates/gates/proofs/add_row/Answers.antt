@@ -1,6 +1,5 @@
 -- `gates::add_row` meets its contract.
 use Rattle.gates.proofs.Building.{row_full, row_written}
-use borrow.Author.Rules.{rules}
 use Rattle.gates.proofs.add_row.Goals as goal
 
 pub returns-then-rows-start : goal.returns-then-rows-start

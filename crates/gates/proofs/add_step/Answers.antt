@@ -1,6 +1,5 @@
 -- `gates::add_step` meets its contract.
 use Rattle.gates.specs.Gates.{add_step}
-use borrow.Author.Rules.{rules}
 use Rattle.gates.proofs.add_step.Goals as goal
 
 pub returns-then-trivial : goal.returns-then-trivial

@@ -1,6 +1,6 @@
 -- `output::copy_graph` meets its contract.
 use native.Mathlib.Omega.{arith}
-use Rattle.graph.specs.Graph.{Lent, lent}
+use Rattle.graph.specs.Graph.{lent}
 use Rattle.output.proofs.Copying.{all_copied}
 use Rattle.output.proofs.copy_graph.Goals as goal
 
@@ -44,8 +44,9 @@ copy_words-requires-9 c = record { has = omega (arith, c.requires.has.fairness);
 
 pub returns : goal.returns
 returns c =
-    let graph = lent c.args.rows.now c.args.inputs.now c.args.latches.now c.args.constraints.now c.args.bads.now c.args.outputs.now c.args.ends.now c.args.edges.now c.args.fairness.now c.args.n in
-    let out = lent c.args.rows2.now c.args.inputs2.now c.args.latches2.now c.args.constraints2.now c.args.bads2.now c.args.outputs2.now c.args.ends2.now c.args.edges2.now c.args.fairness2.now c.args.n in
-    all_copied c.args.n graph out c.copy_words.ensures c.copy_words-2.ensures c.copy_words-3.ensures
-    c.copy_words-4.ensures c.copy_words-5.ensures c.copy_words-6.ensures c.copy_words-7.ensures
-    c.copy_words-8.ensures c.copy_words-9.ensures
+    let graph = lent c.args.rows.now c.args.inputs.now c.args.latches.now c.args.constraints.now c.args.bads.now c.args.outputs.now c.args.ends.now c.args.edges.now c.args.fairness.now
+    c.args.n in
+    let out = lent c.args.rows2.now c.args.inputs2.now c.args.latches2.now c.args.constraints2.now c.args.bads2.now c.args.outputs2.now c.args.ends2.now c.args.edges2.now
+    c.args.fairness2.now c.args.n in
+    all_copied c.args.n graph out c.copy_words.ensures c.copy_words-2.ensures c.copy_words-3.ensures c.copy_words-4.ensures c.copy_words-5.ensures c.copy_words-6.ensures
+    c.copy_words-7.ensures c.copy_words-8.ensures c.copy_words-9.ensures

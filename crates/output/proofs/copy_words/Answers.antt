@@ -1,10 +1,7 @@
 -- `output::copy_words` meets its contract.
-use Prim.Native.Nat.{◌-◌, ◌≤◌}
 use native.Mathlib.Omega.{arith}
 use native.Mathlib.Nat.{le_antisymm}
-use mathlib.Core.Path.{◌≡◌, refl}
-use lib.ListN.{length}
-use Rattle.output.specs.Copying.{copied}
+use mathlib.Core.Path.{refl}
 use Rattle.output.proofs.Copying.{none_copied, copied_turn}
 use borrow.Author.Rules.{rules}
 use Rattle.output.proofs.copy_words.Goals as goal

@@ -1,11 +1,7 @@
 use Prim.Native.Nat.{◌-◌, ◌≤◌}
-use native.Mathlib.Omega.{arith}
-use native.Mathlib.Nat.{le_antisymm}
-use mathlib.Core.Path.{◌≡◌, refl}
+use mathlib.Core.Path.{◌≡◌}
 use lib.ListN.{length}
 use Rattle.output.specs.Copying.{copied}
-use Rattle.output.proofs.Copying.{none_copied, copied_turn}
-use borrow.Author.Rules.{rules}
 use Rattle.output.proofs.copy_words.Given as goal
 
 abbrev pub invariant-loop-j : goal.invariant-loop-j

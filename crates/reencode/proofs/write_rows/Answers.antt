@@ -34,6 +34,6 @@ rebuild_gates-requires c =
 
 pub returns : goal.returns
 returns c =
-    let whole = rows_written c.args.rows.now c.args.inputs.now c.args.latches.now c.args.counts c.args.marks.now c.requires
-    c.number_inputs.ensures c.number_latches.ensures c.args.rows2.now _ c.write_leaves.ensures
-    c.rebuild_gates.ensures.out_after c.rebuild_gates.ensures.marks_hold c.rebuild_gates.ensures.marks_unchanged in record { rows2_after = whole.0; marks_hold = whole.1.0; marks_unchanged = whole.1.1 }
+    let whole = rows_written c.args.rows.now c.args.inputs.now c.args.latches.now c.args.counts c.args.marks.now c.requires c.number_inputs.ensures c.number_latches.ensures c.args.rows2.now
+    _ c.write_leaves.ensures c.rebuild_gates.ensures.out_after c.rebuild_gates.ensures.marks_hold c.rebuild_gates.ensures.marks_unchanged in
+    record { rows2_after = whole.0; marks_hold = whole.1.0; marks_unchanged = whole.1.1 }

@@ -4,7 +4,6 @@ use mathlib.Core.Path.{◌≡◌}
 use borrow.Author.Tests.{ne_eqb}
 use Rattle.rows.specs.Rows.{none}
 use Rattle.renumber.specs.Renumber.{renamed}
-use borrow.Author.Rules.{rules}
 use Rattle.renumber.proofs.renamed_edge.Goals as goal
 
 pub returns : goal.returns

@@ -1,7 +1,6 @@
 -- `renumber::renamed_latch` meets its contract.
 use mathlib.Core.Path.{◌∙◌}
 use Rattle.renumber.specs.Renumber.{renamed_latch}
-use borrow.Author.Rules.{rules}
 use Rattle.renumber.proofs.renamed_latch.Goals as goal
 
 pub returns : goal.returns

@@ -1,9 +1,7 @@
 -- `renumber::write_latches` meets its contract.
-use Prim.Native.Nat.{◌-◌, ◌≤◌}
 use native.Mathlib.Omega.{arith}
 use native.Mathlib.Nat.{le_antisymm}
-use mathlib.Core.Path.{◌≡◌, refl}
-use lib.ListN.{length}
+use mathlib.Core.Path.{refl}
 use Rattle.renumber.specs.Renumber.{latches_written, by}
 use Rattle.renumber.proofs.Writing.{latches_turn}
 use borrow.Author.Rules.{rules}

@@ -1,11 +1,7 @@
 use Prim.Native.Nat.{◌-◌, ◌≤◌}
-use native.Mathlib.Omega.{arith}
-use native.Mathlib.Nat.{le_antisymm}
-use mathlib.Core.Path.{◌≡◌, refl}
+use mathlib.Core.Path.{◌≡◌}
 use lib.ListN.{length}
 use Rattle.renumber.specs.Renumber.{latches_written, by}
-use Rattle.renumber.proofs.Writing.{latches_turn}
-use borrow.Author.Rules.{rules}
 use Rattle.renumber.proofs.write_latches.Given as goal
 
 abbrev pub invariant-loop-j : goal.invariant-loop-j

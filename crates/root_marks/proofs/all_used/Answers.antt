@@ -1,10 +1,6 @@
 -- `root_marks::all_used` meets its contract.
-use Prim.Native.Nat.{◌-◌, ◌≤◌}
-use mathlib.Core.Path.{◌≡◌, refl, sym, ◌∙◌}
-use lib.ListN.{length, drop}
+use mathlib.Core.Path.{refl, sym, ◌∙◌}
 use borrow.Author.Tests.{not-true, not-false}
-use Rattle.graph.specs.Leaves.{used_edge}
-use Rattle.root_marks.specs.Arguments.{every}
 use Rattle.root_marks.proofs.Arguments.{every_end, every_stops, every_goes}
 use borrow.Author.Rules.{rules}
 use Rattle.root_marks.proofs.all_used.Goals as goal

@@ -1,11 +1,8 @@
 use Prim.Native.Nat.{◌-◌, ◌≤◌}
-use mathlib.Core.Path.{◌≡◌, refl, sym, ◌∙◌}
+use mathlib.Core.Path.{◌≡◌}
 use lib.ListN.{length, drop}
-use borrow.Author.Tests.{not-true, not-false}
 use Rattle.graph.specs.Leaves.{used_edge}
 use Rattle.root_marks.specs.Arguments.{every}
-use Rattle.root_marks.proofs.Arguments.{every_end, every_stops, every_goes}
-use borrow.Author.Rules.{rules}
 use Rattle.root_marks.proofs.all_used.Given as goal
 
 abbrev pub invariant-loop-i : goal.invariant-loop-i

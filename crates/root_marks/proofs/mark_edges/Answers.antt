@@ -1,12 +1,11 @@
 -- `root_marks::mark_edges` meets its contract.
-use Prim.Native.Nat.{◌-◌, ◌≤◌, ◌<◌}
+use Prim.Native.Nat.{◌<◌}
 use native.Mathlib.Omega.{arith}
-use mathlib.Core.Path.{◌≡◌, refl, sym, ◌∙◌}
-use lib.ListN.{length, drop, get_or}
+use mathlib.Core.Path.{refl, sym, ◌∙◌}
+use lib.ListN.{length, get_or}
 use borrow.Author.Tests.{ltb-true}
 use Rattle.edge.specs.Edges.{id_of}
 use Rattle.graph.specs.Leaves.{used_edge}
-use Rattle.root_marks.specs.Marking.{mark_edges}
 use Rattle.root_marks.proofs.Arguments.{every_at}
 use Rattle.root_marks.proofs.Marking.{edges_turn, edges_end}
 use borrow.Author.Rules.{rules}

@@ -1,14 +1,7 @@
-use Prim.Native.Nat.{◌-◌, ◌≤◌, ◌<◌}
-use native.Mathlib.Omega.{arith}
-use mathlib.Core.Path.{◌≡◌, refl, sym, ◌∙◌}
-use lib.ListN.{length, drop, get_or}
-use borrow.Author.Tests.{ltb-true}
-use Rattle.edge.specs.Edges.{id_of}
-use Rattle.graph.specs.Leaves.{used_edge}
+use Prim.Native.Nat.{◌-◌, ◌≤◌}
+use mathlib.Core.Path.{◌≡◌}
+use lib.ListN.{length, drop}
 use Rattle.root_marks.specs.Marking.{mark_edges}
-use Rattle.root_marks.proofs.Arguments.{every_at}
-use Rattle.root_marks.proofs.Marking.{edges_turn, edges_end}
-use borrow.Author.Rules.{rules}
 use Rattle.root_marks.proofs.mark_edges.Given as goal
 
 abbrev pub invariant-loop-i : goal.invariant-loop-i

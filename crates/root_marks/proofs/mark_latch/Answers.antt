@@ -3,7 +3,6 @@ use borrow.Author.Tests.{eq-eqb, ne_eqb, ltb-true}
 use lib.ListN.{length, length-set}
 use Rattle.graph.specs.Leaves.{used_edge}
 use Rattle.root_marks.proofs.Roots.{next_good, init_good, latch_without, latch_with}
-use borrow.Author.Rules.{rules}
 use Rattle.root_marks.proofs.mark_latch.Goals as goal
 
 pub bounds-marks-x : goal.bounds-marks-x

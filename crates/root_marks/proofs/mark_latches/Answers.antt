@@ -1,7 +1,6 @@
 -- `root_marks::mark_latches` meets its contract.
 use Rattle.root_marks.proofs.Roots.{latches_end, latch_good, latches_turn}
-use Prim.Native.Nat.{◌-◌, ◌≤◌}
-use mathlib.Core.Path.{◌≡◌, refl, sym, ◌∙◌}
+use mathlib.Core.Path.{refl, sym, ◌∙◌}
 use lib.ListN.{length}
 use Rattle.graph.specs.Leaves.{used_edge}
 use Rattle.root_marks.specs.Marking.{mark_edges}

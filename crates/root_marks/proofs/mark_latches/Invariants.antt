@@ -1,11 +1,8 @@
-use Rattle.root_marks.proofs.Roots.{latches_end, latch_good, latches_turn}
 use Prim.Native.Nat.{◌-◌, ◌≤◌}
-use mathlib.Core.Path.{◌≡◌, refl, sym, ◌∙◌}
+use mathlib.Core.Path.{◌≡◌}
 use lib.ListN.{length}
-use Rattle.graph.specs.Leaves.{used_edge}
 use Rattle.root_marks.specs.Marking.{mark_edges}
 use Rattle.root_marks.specs.Roots.{latch_roots}
-use borrow.Author.Rules.{rules}
 use Rattle.root_marks.proofs.mark_latches.Given as goal
 
 abbrev pub invariant-loop-i : goal.invariant-loop-i

@@ -1,7 +1,6 @@
 -- `root_marks::mark_list` meets its contract.
 use mathlib.Core.Path.{sym}
 use lib.Seq.{length-take-le}
-use borrow.Author.Rules.{rules}
 use Rattle.root_marks.proofs.mark_list.Goals as goal
 
 pub slice_bounds-mark_edges-end : goal.slice_bounds-mark_edges-end

@@ -3,7 +3,6 @@ use lib.ListN.{length, take}
 use Rattle.graph.specs.Leaves.{used_edge}
 use Rattle.root_marks.specs.Roots.{latch_roots}
 use Rattle.root_marks.proofs.Roots.{Six, six, still_used, all_marked}
-use borrow.Author.Rules.{rules}
 use Rattle.root_marks.proofs.mark_roots.Goals as goal
 use Rattle.root_marks.proofs.mark_roots.Goals.{Start}
 
@@ -21,7 +20,11 @@ pub mark_list-requires : goal.mark_list-requires
 mark_list-requires c = record { n_in_bounds = c.requires.roots_fit.constraints_fit; list_value = (still_used _ _ _ c.mark_latches.ensures (parts (goal.at.mark_list-requires c).Start).second) }
 
 pub mark_list-requires-2 : goal.mark_list-requires-2
-mark_list-requires-2 c = record { n_in_bounds = c.requires.roots_fit.bads_fit; list_value = (still_used _ _ _ c.mark_list.ensures (still_used _ _ _ c.mark_latches.ensures (parts (goal.at.mark_list-requires-2 c).Start).third)) }
+mark_list-requires-2 c =
+    record {
+      n_in_bounds = c.requires.roots_fit.bads_fit;
+      list_value = (still_used _ _ _ c.mark_list.ensures (still_used _ _ _ c.mark_latches.ensures (parts (goal.at.mark_list-requires-2 c).Start).third));
+    }
 
 pub mark_list-requires-3 : goal.mark_list-requires-3
 mark_list-requires-3 c =

@@ -1,6 +1,5 @@
 -- `ternary::arguments` meets its contract.
 use Rattle.ternary.specs.Calls.{arguments_right}
-use borrow.Author.Rules.{rules}
 use Rattle.ternary.proofs.arguments.Goals as goal
 
 pub returns : goal.returns

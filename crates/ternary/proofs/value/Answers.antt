@@ -2,7 +2,6 @@
 use Rattle.ternary.proofs.Answering.{value_at, value_sizes, value_unused, value_code, value_done}
 use mathlib.Core.Path.{sym, ◌∙◌}
 use borrow.Author.Tests.{not-true, not-false}
-use borrow.Author.Rules.{rules}
 use Rattle.ternary.proofs.value.Goals as goal
 
 pub returns-then-used-values : goal.returns-then-used-values

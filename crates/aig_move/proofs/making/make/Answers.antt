@@ -15,4 +15,6 @@ pub slice_bounds-make_rows-end-3 : goal.slice_bounds-make_rows-end-3
 slice_bounds-make_rows-end-3 c = sym (length-take-le c.args.counts.outputs c.args.outputs.now c.requires.outputs_has)
 
 pub make_rows-requires : goal.make_rows-requires
-make_rows-requires c = let l = length-take-le c.args.counts.constraints c.args.constraints.now c.requires.constraints_has in record { used_le_max_rows = omega (arith, c.requires.rows); constraints_len_bound = omega (arith, l, c.requires.few) }
+make_rows-requires c =
+    let l = length-take-le c.args.counts.constraints c.args.constraints.now c.requires.constraints_has in
+    record { used_le_max_rows = omega (arith, c.requires.rows); constraints_len_bound = omega (arith, l, c.requires.few) }

@@ -6,7 +6,6 @@ use lib.ListN.{length}
 use Rattle.edge.proofs.Answers.{test_done}
 use Rattle.build_leaves.specs.Leaves.{add_input_call}
 use Rattle.build_leaves.proofs.Adding.{add_refused, add_done, Fits, input_fits}
-use borrow.Author.Rules.{rules}
 use Rattle.build_leaves.proofs.leaves.add_input.Goals as goal
 use Rattle.build_leaves.proofs.leaves.add_input.Goals.{Else-not-is_done}
 

@@ -1,6 +1,5 @@
 -- `build_leaves::leaves::input_answer` meets its contract.
 use Rattle.build_leaves.specs.Leaves.{input_answer}
-use borrow.Author.Rules.{rules}
 use Rattle.build_leaves.proofs.leaves.input_answer.Goals as goal
 
 pub returns : goal.returns

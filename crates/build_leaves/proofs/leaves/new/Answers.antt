@@ -5,7 +5,6 @@ use Rattle.edge.proofs.Answers.{test_done, test_refused}
 use Rattle.build_leaves.proofs.Answering.{call_refused, call_done, built_seen_lem}
 use Rattle.graph.specs.Graph.{no_counts}
 use Rattle.build_leaves.specs.Leaves.{new_call}
-use borrow.Author.Rules.{rules}
 use Rattle.build_leaves.proofs.leaves.new.Goals as goal
 
 pub returns-then-not-is_done : goal.returns-then-not-is_done

@@ -8,7 +8,6 @@ use Rattle.edge.specs.Answers.{told}
 use Rattle.edge.proofs.Answers.{test_done}
 use Rattle.build_leaves.specs.Leaves.{new_input_call, free_row, input_answer}
 use Rattle.build_leaves.proofs.Adding.{add_refused, add_done, Fits, input_fits}
-use borrow.Author.Rules.{rules}
 use Rattle.build_leaves.proofs.leaves.new_input.Goals as goal
 use Rattle.build_leaves.proofs.leaves.new_input.Goals.{After-input_answer-answer, Else-not-is_done}
 
@@ -20,7 +19,7 @@ room : (c : Else-not-is_done) →
     Fits c.args.counts (length c.args.inputs.now) (c.args.counts.inputs + 1)
 room c =
     let judged : told c.input_answer-answer.result ≡ input_answer c.args.rows.now c.args.inputs.now c.args.counts true (free_row c.args.rows.now c.args.counts.rows) =
-        rw (← c.free_row.ensures) c.input_answer-answer.ensures in
+    rw (← c.free_row.ensures) c.input_answer-answer.ensures in
     input_fits _ _ c.args.counts _ _ (test_done judged c.is_done.ensures c.if-not-is_done.false-raw)
 
 pub returns-then-not-is_done : goal.returns-then-not-is_done

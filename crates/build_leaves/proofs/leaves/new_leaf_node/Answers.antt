@@ -8,7 +8,6 @@ use Rattle.edge.proofs.Answers.{test_done}
 use Rattle.rows.specs.Sizes.{max_rows}
 use Rattle.build_leaves.specs.Leaves.{leaf_call, leaf_answer}
 use Rattle.build_leaves.proofs.Adding.{add_refused, add_done, leaf_fits}
-use borrow.Author.Rules.{rules}
 use Rattle.build_leaves.proofs.leaves.new_leaf_node.Goals as goal
 use Rattle.build_leaves.proofs.leaves.new_leaf_node.Goals.{After-answered-answer, Else-not-is_done}
 

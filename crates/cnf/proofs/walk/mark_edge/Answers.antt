@@ -4,7 +4,6 @@ use Prim.Native.Nat.{◌/◌}
 use lib.ListN.{length}
 use borrow.Author.Tests.{ltb-true}
 use Rattle.root_marks.specs.Marking.{mark_edges}
-use borrow.Author.Rules.{rules}
 use Rattle.cnf.proofs.walk.mark_edge.Goals as goal
 
 pub bounds-marks-x : goal.bounds-marks-x

@@ -1,7 +1,5 @@
 -- `cnf::walk::mark_operands` meets its contract.
-use mathlib.Core.Path.{◌∙◌}
 use Rattle.cnf.proofs.Walking.{no_operands, plain_operands, xor_operands, ite_operands, mark_one, used_two, used_three, mark_none, mark_two, mark_three}
-use borrow.Author.Rules.{rules}
 use Rattle.cnf.proofs.walk.mark_operands.Goals as goal
 
 pub mark_edge-requires : goal.mark_edge-requires

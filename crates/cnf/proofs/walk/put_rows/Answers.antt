@@ -1,10 +1,8 @@
 -- `cnf::walk::put_rows` meets its contract.
-use Prim.Native.Nat.{◌+◌, ◌≤◌}
 use native.Mathlib.Omega.{arith}
-use mathlib.Core.Path.{◌≡◌, refl}
+use mathlib.Core.Path.{refl}
 use lib.ListN.{length}
-use lib.Seq.{sets}
-use Rattle.cnf.proofs.Walking.{words_left, left_few, place_turn, place_end, write_turn, write_end}
+use Rattle.cnf.proofs.Walking.{left_few, place_turn, place_end, write_turn, write_end}
 use borrow.Author.Rules.{rules}
 use Rattle.cnf.proofs.walk.put_rows.Goals as goal
 
@@ -35,4 +33,8 @@ loop-i-preserved c =
 pub returns : goal.returns
 returns c =
     let a = c.args in
-    let l = c.loop-i in record { place = place_end a.shortcuts a.rows.now l.i l.marks c.loop-i-test.false l.at l.invariant.3; written = λ room. write_end a.shortcuts a.rows.now l.i l.marks c.loop-i-test.false l.clauses l.at (l.invariant.4 room) }
+    let l = c.loop-i in
+    record {
+      place = place_end a.shortcuts a.rows.now l.i l.marks c.loop-i-test.false l.at l.invariant.3;
+      written = λ room. write_end a.shortcuts a.rows.now l.i l.marks c.loop-i-test.false l.clauses l.at (l.invariant.4 room);
+    }

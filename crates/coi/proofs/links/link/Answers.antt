@@ -1,11 +1,9 @@
 -- `coi::links::link` meets its contract.
-use Prim.Native.Nat.{◌-◌, ◌≤◌}
 use native.Mathlib.Omega.{arith}
 use native.Mathlib.Nat.{le_antisymm}
-use mathlib.Core.Path.{◌≡◌, refl, ap}
+use mathlib.Core.Path.{refl, ap}
 use lib.ListN.{length}
 use Rattle.graph.specs.declared.latch.Latch.{Latch}
-use Rattle.coi.specs.Steps.{Links}
 use Rattle.coi.proofs.Linking.{links_none, links_more}
 use borrow.Author.Rules.{rules}
 use Rattle.coi.proofs.links.link.Goals as goal

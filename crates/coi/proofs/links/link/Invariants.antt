@@ -1,12 +1,7 @@
 use Prim.Native.Nat.{◌-◌, ◌≤◌}
-use native.Mathlib.Omega.{arith}
-use native.Mathlib.Nat.{le_antisymm}
-use mathlib.Core.Path.{◌≡◌, refl, ap}
+use mathlib.Core.Path.{◌≡◌}
 use lib.ListN.{length}
-use Rattle.graph.specs.declared.latch.Latch.{Latch}
 use Rattle.coi.specs.Steps.{Links}
-use Rattle.coi.proofs.Linking.{links_none, links_more}
-use borrow.Author.Rules.{rules}
 use Rattle.coi.proofs.links.link.Given as goal
 
 abbrev pub invariant-loop-k : goal.invariant-loop-k

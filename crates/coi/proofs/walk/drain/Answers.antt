@@ -1,10 +1,9 @@
 -- `coi::walk::drain` meets its contract.
 use Prim.Native.Nat.{◌-◌}
 use native.Mathlib.Omega.{arith}
-use mathlib.Core.Path.{◌≡◌, refl, sym, ◌∙◌}
+use mathlib.Core.Path.{refl, sym, ◌∙◌}
 use lib.ListN.{length}
-use Rattle.coi.specs.Coi.{drained}
-use Rattle.coi.specs.Steps.{stacked, work_of, turns_left, Going, steps_by}
+use Rattle.coi.specs.Steps.{steps_by}
 use Rattle.coi.proofs.Visiting.{stacked_long}
 use Rattle.coi.proofs.Walking.{known_used, top_used, rest_going, turn_going, turn_falls, turn_same, drained_none}
 use borrow.Author.Rules.{rules}
@@ -23,7 +22,12 @@ pub overflow_cast-i : goal.overflow_cast-i
 overflow_cast-i c = omega (arith, c.type_inv.stack (c.loop-count.count - 1))
 
 pub step-count-requires : goal.step-count-requires
-step-count-requires c = rw (c.loop-count.invariant.0, c.loop-count.invariant.1) record { i_in_bounds = top_used _ _ _ _ _ c.loop-count-test.true c.loop-count.invariant.2; known = c.requires.known; going = rest_going _ _ _ _ _ c.loop-count-test.true c.loop-count.invariant.2 }
+step-count-requires c =
+    rw (c.loop-count.invariant.0, c.loop-count.invariant.1) record {
+      i_in_bounds = top_used _ _ _ _ _ c.loop-count-test.true c.loop-count.invariant.2;
+      known = c.requires.known;
+      going = rest_going _ _ _ _ _ c.loop-count-test.true c.loop-count.invariant.2;
+    }
 
 pub loop-count-smaller : goal.loop-count-smaller
 loop-count-smaller c =

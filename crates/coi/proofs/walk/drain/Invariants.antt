@@ -1,19 +1,14 @@
-use Prim.Native.Nat.{◌-◌}
-use native.Mathlib.Omega.{arith}
-use mathlib.Core.Path.{◌≡◌, refl, sym, ◌∙◌}
+use mathlib.Core.Path.{◌≡◌}
 use lib.ListN.{length}
 use Rattle.coi.specs.Coi.{drained}
 use Rattle.coi.specs.Steps.{stacked, work_of, turns_left, Going, steps_by}
-use Rattle.coi.proofs.Visiting.{stacked_long}
-use Rattle.coi.proofs.Walking.{known_used, top_used, rest_going, turn_going, turn_falls, turn_same, drained_none}
-use borrow.Author.Rules.{rules}
 use Rattle.coi.proofs.walk.drain.Given as goal
 
 abbrev pub invariant-loop-count : goal.invariant-loop-count
 invariant-loop-count l =
     (length l.flags ≡ length l.initial.flags) × (length l.stack ≡ length l.initial.stack) × Going (length l.initial.flags) (length l.initial.stack) (work_of l.flags l.stack l.count) ×
-    (drained (steps_by l.rows l.latches l.marks) (turns_left (work_of l.flags l.stack l.count)) l.flags (stacked l.stack l.count) ≡ drained (steps_by l.rows l.latches l.marks) (turns_left (work_of l.initial.flags l.initial.stack l.first))
-    l.initial.flags (stacked l.initial.stack l.first))
+    (drained (steps_by l.rows l.latches l.marks) (turns_left (work_of l.flags l.stack l.count)) l.flags (stacked l.stack l.count) ≡ drained (steps_by l.rows l.latches l.marks)
+    (turns_left (work_of l.initial.flags l.initial.stack l.first)) l.initial.flags (stacked l.initial.stack l.first))
 
 abbrev pub decreases-loop-count : goal.decreases-loop-count
 decreases-loop-count l = turns_left (work_of l.flags l.stack l.count)

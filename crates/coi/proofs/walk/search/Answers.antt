@@ -5,7 +5,6 @@ use Rattle.root_marks.proofs.Flagging.{cleared_all}
 use Rattle.coi.specs.Steps.{steps_by}
 use Rattle.coi.proofs.Visiting.{going_on, all_going_on}
 use Rattle.coi.proofs.Walking.{start_going, walked}
-use borrow.Author.Rules.{rules}
 use Rattle.coi.proofs.walk.search.Goals as goal
 
 pub visit-first-requires : goal.visit-first-requires

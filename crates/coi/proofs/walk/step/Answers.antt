@@ -12,7 +12,6 @@ use Rattle.coi.specs.Coi.{visited}
 use Rattle.coi.specs.Steps.{work_of}
 use Rattle.coi.proofs.Visiting.{going_on}
 use Rattle.coi.proofs.Walking.{gate_steps_lem, no_steps, latch_steps}
-use borrow.Author.Rules.{rules}
 use Rattle.coi.proofs.walk.step.Goals as goal
 use Rattle.coi.proofs.walk.step.Goals.{Else-is_gate, Then-is_gate}
 
@@ -39,7 +38,11 @@ pub overflow_cast-b : goal.overflow_cast-b
 overflow_cast-b c = omega (arith, fanins (goal.at.overflow_cast-b c).Then-is_gate)
 
 pub visit-requires : goal.visit-requires
-visit-requires c = rw (c.flags-1.given, c.stack-1.given) record { j_in_bounds = omega (arith, fanins (goal.at.visit-requires c).Then-is_gate); going = going_on _ _ _ c.visit-n.ensures (omega (arith, fanins (goal.at.visit-requires c).Then-is_gate)) c.requires.going }
+visit-requires c =
+    rw (c.flags-1.given, c.stack-1.given) record {
+      j_in_bounds = omega (arith, fanins (goal.at.visit-requires c).Then-is_gate);
+      going = going_on _ _ _ c.visit-n.ensures (omega (arith, fanins (goal.at.visit-requires c).Then-is_gate)) c.requires.going;
+    }
 
 pub returns-then-is_gate : goal.returns-then-is_gate
 returns-then-is_gate c =

@@ -3,7 +3,6 @@ use Rattle.coi.proofs.Visiting.{seen_on, push_room, new_on}
 use native.Mathlib.Omega.{arith}
 use Prim.Native.Nat.{◌<◌}
 use lib.ListN.{length}
-use borrow.Author.Rules.{rules}
 use Rattle.coi.proofs.walk.visit.Goals as goal
 use Rattle.coi.proofs.walk.visit.Goals.{Else-flags-j-eq1}
 

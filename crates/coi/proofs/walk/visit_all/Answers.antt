@@ -1,12 +1,11 @@
 -- `coi::walk::visit_all` meets its contract.
-use Prim.Native.Nat.{◌-◌, ◌≤◌, ◌<◌}
+use Prim.Native.Nat.{◌<◌}
 use native.Mathlib.Omega.{arith}
-use mathlib.Core.Path.{◌≡◌, refl, sym, ap, ◌∙◌}
-use lib.ListN.{length, drop, get_or}
+use mathlib.Core.Path.{refl, sym, ap, ◌∙◌}
+use lib.ListN.{length, get_or}
 use borrow.Author.Tests.{ltb-true}
 use Rattle.root_marks.proofs.Arguments.{every_at}
 use Rattle.coi.specs.Coi.{visited_all, used_row}
-use Rattle.coi.specs.Steps.{work_of, Going}
 use Rattle.coi.proofs.Visiting.{going_on}
 use Rattle.coi.proofs.Walking.{visits_turn, visits_end}
 use borrow.Author.Rules.{rules}

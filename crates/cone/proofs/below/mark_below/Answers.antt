@@ -1,7 +1,5 @@
 -- `cone::below::mark_below` meets its contract.
-use Prim.Native.Nat.{◌-◌, ◌≤◌}
-use mathlib.Core.Path.{◌≡◌, sym, ap, ◌∙◌}
-use lib.ListN.{length}
+use mathlib.Core.Path.{sym, ap, ◌∙◌}
 use Rattle.cone.specs.Cone.{mark_below}
 use Rattle.cone.proofs.Marking.{below_turn, below_end}
 use borrow.Author.Rules.{rules}

@@ -1,9 +1,7 @@
-use Prim.Native.Nat.{◌-◌, ◌≤◌}
-use mathlib.Core.Path.{◌≡◌, sym, ap, ◌∙◌}
+use Prim.Native.Nat.{◌≤◌}
+use mathlib.Core.Path.{◌≡◌}
 use lib.ListN.{length}
 use Rattle.cone.specs.Cone.{mark_below}
-use Rattle.cone.proofs.Marking.{below_turn, below_end}
-use borrow.Author.Rules.{rules}
 use Rattle.cone.proofs.below.mark_below.Given as goal
 
 abbrev pub invariant-loop-i : goal.invariant-loop-i

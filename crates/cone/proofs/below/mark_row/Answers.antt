@@ -8,7 +8,6 @@ use mathlib.Core.Path.{◌≡◌, sym}
 use lib.Dec.{eqb}
 use borrow.Author.Tests.{not-true, not-false}
 use Rattle.cone.proofs.Marking.{row_stays, row_marks, test_below}
-use borrow.Author.Rules.{rules}
 use Rattle.cone.proofs.below.mark_row.Goals as goal
 use Rattle.cone.proofs.below.mark_row.Goals.{Else-not-flags-i}
 

@@ -1,5 +1,4 @@
 -- `edge::answer::is_done` meets its contract.
-use borrow.Author.Rules.{rules}
 use Rattle.edge.proofs.answer.is_done.Goals as goal
 
 pub returns : goal.returns

@@ -1,5 +1,4 @@
 -- `edge::answer::told` meets its contract.
-use borrow.Author.Rules.{rules}
 use Rattle.edge.proofs.answer.told.Goals as goal
 
 pub returns-in-Done : goal.returns-in-Done

@@ -6,7 +6,9 @@ use Rattle.frame.specs.Map.{lists_grown}
 use Rattle.frame.proofs.map.grow_lists.Goals as goal
 
 pub write_nexts-requires : goal.write_nexts-requires
-write_nexts-requires c = let p = c.requires in record { n_in_bounds = omega (arith, p.latches); nexts_used = record { has = omega (arith, p.used.latches_has); below = λ j l. (p.used.latches j l).next } }
+write_nexts-requires c =
+    let p = c.requires in
+    record { n_in_bounds = omega (arith, p.latches); nexts_used = record { has = omega (arith, p.used.latches_has); below = λ j l. (p.used.latches j l).next } }
 
 pub write_mapped-requires : goal.write_mapped-requires
 write_mapped-requires c = let p = c.requires in record { n_in_bounds = omega (arith, p.constraints); used_edges = p.used.constraints }

@@ -1,6 +1,5 @@
 -- `gate_clauses::four::ite_clauses` meets its contract.
 use Rattle.gate_clauses.proofs.Writing.{ite_four}
-use borrow.Author.Rules.{rules}
 use Rattle.gate_clauses.proofs.four.ite_clauses.Goals as goal
 
 pub returns : goal.returns

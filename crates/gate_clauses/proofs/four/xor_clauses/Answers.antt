@@ -1,6 +1,5 @@
 -- `gate_clauses::four::xor_clauses` meets its contract.
 use Rattle.gate_clauses.proofs.Writing.{xor_four}
-use borrow.Author.Rules.{rules}
 use Rattle.gate_clauses.proofs.four.xor_clauses.Goals as goal
 
 pub returns : goal.returns

@@ -1,8 +1,7 @@
 -- `gate_clauses::put::put_four` meets its contract.
 use Rattle.gate_clauses.specs.Shapes.{words}
 use Rattle.gate_clauses.proofs.Writing.{no_room_lem, four_long, put_four}
-use mathlib.Core.Path.{refl, ◌∙◌}
-use borrow.Author.Rules.{rules}
+use mathlib.Core.Path.{refl}
 use Rattle.gate_clauses.proofs.put.put_four.Goals as goal
 
 pub returns-then-clauses-end : goal.returns-then-clauses-end

@@ -2,12 +2,13 @@
 use Rattle.gate_clauses.specs.declared.Shape.TheVariants.{Plain}
 use Rattle.gate_clauses.specs.Shapes.{clauses_of, words}
 use Rattle.gate_clauses.proofs.Writing.{no_room_lem, size_plain, put_plain}
-use mathlib.Core.Path.{refl, ◌∙◌}
-use borrow.Author.Rules.{rules}
+use mathlib.Core.Path.{refl}
 use Rattle.gate_clauses.proofs.put.put_plain.Goals as goal
 
 pub returns-then-clauses-end : goal.returns-then-clauses-end
-returns-then-clauses-end c = let a = c.args in record { place = refl; written = no_room_lem a.clauses.now a.at (words (clauses_of a.g (Plain a.a a.b))) (size_plain a.g a.a a.b refl) c.if-clauses-end.true }
+returns-then-clauses-end c =
+    let a = c.args in
+    record { place = refl; written = no_room_lem a.clauses.now a.at (words (clauses_of a.g (Plain a.a a.b))) (size_plain a.g a.a a.b refl) c.if-clauses-end.true }
 
 pub returns : goal.returns
 returns c =

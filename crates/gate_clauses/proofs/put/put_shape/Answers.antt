@@ -2,7 +2,6 @@
 use native.Mathlib.Omega.{arith}
 use mathlib.Core.Path.{refl}
 use Rattle.gate_clauses.proofs.Writing.{size_plain, size_xor, size_ite, threes_xor, threes_ite, put_none, put_same, behind_none}
-use borrow.Author.Rules.{rules}
 use Rattle.gate_clauses.proofs.put.put_shape.Goals as goal
 
 pub put_four-requires : goal.put_four-requires
@@ -15,10 +14,20 @@ pub returns-in-Unwritten : goal.returns-in-Unwritten
 returns-in-Unwritten c = let a = c.args in record { place = behind_none a.g a.at c.in-Unwritten.is; written = put_none a.g a.clauses.now a.at c.in-Unwritten.is }
 
 pub returns-in-Plain : goal.returns-in-Plain
-returns-in-Plain c = let a = c.args in record { place = omega (arith, c.put_plain.ensures.place, size_plain a.g _ _ c.in-Plain.is); written = put_same a.g a.clauses.now a.at c.in-Plain.is refl c.put_plain.ensures.written }
+returns-in-Plain c =
+    let a = c.args in
+    record { place = omega (arith, c.put_plain.ensures.place, size_plain a.g _ _ c.in-Plain.is); written = put_same a.g a.clauses.now a.at c.in-Plain.is refl c.put_plain.ensures.written }
 
 pub returns-in-Xor : goal.returns-in-Xor
-returns-in-Xor c = let a = c.args in record { place = omega (arith, c.put_four.ensures.place, size_xor a.g _ _ c.in-Xor.is); written = put_same a.g a.clauses.now a.at c.in-Xor.is c.xor_clauses.ensures c.put_four.ensures.written }
+returns-in-Xor c =
+    let a = c.args in
+    record
+    { place = omega (arith, c.put_four.ensures.place, size_xor a.g _ _ c.in-Xor.is); written = put_same a.g a.clauses.now a.at c.in-Xor.is c.xor_clauses.ensures c.put_four.ensures.written }
 
 pub returns-in-Ite : goal.returns-in-Ite
-returns-in-Ite c = let a = c.args in record { place = omega (arith, c.put_four-in-Ite.ensures.place, size_ite a.g _ _ _ c.in-Ite.is); written = put_same a.g a.clauses.now a.at c.in-Ite.is c.ite_clauses.ensures c.put_four-in-Ite.ensures.written }
+returns-in-Ite c =
+    let a = c.args in
+    record {
+      place = omega (arith, c.put_four-in-Ite.ensures.place, size_ite a.g _ _ _ c.in-Ite.is);
+      written = put_same a.g a.clauses.now a.at c.in-Ite.is c.ite_clauses.ensures c.put_four-in-Ite.ensures.written;
+    }

@@ -2,7 +2,6 @@
 use native.Mathlib.Omega.{arith}
 use lib.ListN.{length-set}
 use Rattle.gate_clauses.proofs.Writing.{put_three}
-use borrow.Author.Rules.{rules}
 use Rattle.gate_clauses.proofs.put.put_three.Goals as goal
 
 pub bounds-clauses-at-2 : goal.bounds-clauses-at-2

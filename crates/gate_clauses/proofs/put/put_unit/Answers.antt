@@ -2,7 +2,6 @@
 use Rattle.gate_clauses.proofs.Writing.{no_room_lem, unit_long, put_unit}
 use Rattle.gate_clauses.specs.Shapes.{unit, words}
 use mathlib.Core.List.{[], ◌∷◌}
-use borrow.Author.Rules.{rules}
 use Rattle.gate_clauses.proofs.put.put_unit.Goals as goal
 
 pub returns-then-clauses-lt2 : goal.returns-then-clauses-lt2

@@ -11,7 +11,9 @@ add_and-y-requires c =
     omega (arith, m, c.requires)
 
 pub add_list-requires : goal.add_list-requires
-add_list-requires c = let m = eq_most _ _ _ _ _ c.add_and-x.ensures c.not.ensures c.not-2.ensures _ c.add_and-y.ensures in record { used_bound = omega (arith, m, c.requires); edges_len_bound = search rules }
+add_list-requires c =
+    let m = eq_most _ _ _ _ _ c.add_and-x.ensures c.not.ensures c.not-2.ensures _ c.add_and-y.ensures in
+    record { used_bound = omega (arith, m, c.requires); edges_len_bound = search rules }
 
 pub returns : goal.returns
 returns c = c.add_list.ensures ∙ eq_built _ _ _ _ _ c.add_and-x.ensures c.not.ensures c.not-2.ensures _ c.add_and-y.ensures

@@ -1,10 +1,7 @@
 -- `gates::lists::add_list` meets its contract.
-use Prim.Native.Nat.{◌+◌, ◌-◌, ◌≤◌, ◌<◌}
 use native.Mathlib.Omega.{arith}
-use mathlib.Core.Path.{◌≡◌, refl, ◌∙◌}
-use lib.ListN.{length, drop}
-use Rattle.gates.specs.Gates.{state, steps}
-use Rattle.gates.specs.Lists.{all_of, signed}
+use mathlib.Core.Path.{refl, ◌∙◌}
+use Rattle.gates.specs.Gates.{state}
 use Rattle.gates.proofs.Listing.{none_built, first_built, next_built, last_built, next_sized}
 use borrow.Author.Rules.{rules}
 use Rattle.gates.proofs.lists.add_list.Goals as goal

@@ -1,11 +1,8 @@
 use Prim.Native.Nat.{◌+◌, ◌-◌, ◌≤◌, ◌<◌}
-use native.Mathlib.Omega.{arith}
-use mathlib.Core.Path.{◌≡◌, refl, ◌∙◌}
+use mathlib.Core.Path.{◌≡◌}
 use lib.ListN.{length, drop}
 use Rattle.gates.specs.Gates.{state, steps}
 use Rattle.gates.specs.Lists.{all_of, signed}
-use Rattle.gates.proofs.Listing.{none_built, first_built, next_built, last_built, next_sized}
-use borrow.Author.Rules.{rules}
 use Rattle.gates.proofs.lists.add_list.Given as goal
 
 abbrev pub invariant-loop-i : goal.invariant-loop-i

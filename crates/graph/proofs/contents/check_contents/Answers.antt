@@ -2,18 +2,19 @@
 use native.Mathlib.Omega.{arith}
 use mathlib.Core.Path.{ap, ◌∙◌}
 use lib.ListN.{length, drop}
-use Rattle.graph.specs.Graph.{Lent, lent, Sized}
+use Rattle.graph.specs.Graph.{lent, Sized}
 use Rattle.graph.proofs.Marked.{marks_none, cleared_again}
 use Rattle.graph.proofs.Checked.{sized}
 use Rattle.graph.proofs.contents.check_contents.Goals as goal
 use Rattle.graph.proofs.contents.check_contents.Goals.{Start}
 
 -- what the sizes of the graph give
-known : (c : Start) →
-    let graph = lent c.args.rows.now c.args.inputs.now c.args.latches.now c.args.constraints.now c.args.bads.now c.args.outputs.now c.args.ends.now c.args.edges.now c.args.fairness.now c.args.counts in
-    Sized graph (length c.args.marks.now)
+known :
+    (c : Start) → let graph = lent c.args.rows.now c.args.inputs.now c.args.latches.now c.args.constraints.now c.args.bads.now c.args.outputs.now c.args.ends.now c.args.edges.now
+    c.args.fairness.now c.args.counts in Sized graph (length c.args.marks.now)
 known c =
-    let graph = lent c.args.rows.now c.args.inputs.now c.args.latches.now c.args.constraints.now c.args.bads.now c.args.outputs.now c.args.ends.now c.args.edges.now c.args.fairness.now c.args.counts in
+    let graph = lent c.args.rows.now c.args.inputs.now c.args.latches.now c.args.constraints.now c.args.bads.now c.args.outputs.now c.args.ends.now c.args.edges.now c.args.fairness.now
+    c.args.counts in
     sized graph (length c.args.marks.now) c.requires
 
 pub clear-requires : goal.clear-requires

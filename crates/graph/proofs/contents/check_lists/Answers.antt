@@ -7,7 +7,6 @@ use Rattle.graph.specs.Stages.{first_fault}
 use Rattle.graph.specs.Check.{edge_stage, justice_stages, list_stages}
 use Rattle.graph.proofs.Stages.{stage_stops, stage_goes, none_left, join_stops, join_goes}
 use Rattle.graph.proofs.Checked.{justice_entries}
-use borrow.Author.Rules.{rules}
 use Rattle.graph.proofs.contents.check_lists.Goals as goal
 use Rattle.graph.proofs.contents.check_lists.Goals.{After-check_justice-justice, Else-not-is_done}
 
@@ -59,7 +58,10 @@ returns-then-not-is_done c =
     (test_refused c.check_justice-justice.ensures c.is_done.ensures c.if-not-is_done.true-raw))
 
 pub returns-in-At-first_bad_edge-3 : goal.returns-in-At-first_bad_edge-3
-returns-in-At-first_bad_edge-3 c = ap told c.bad_entry-in-At-first_bad_edge-3.ensures ∙ sym (past_justice (goal.at.returns-in-At-first_bad_edge-3 c).Else-not-is_done ∙ stage_stops _ _ (sym c.first_bad_edge-4.ensures ∙ c.in-At-first_bad_edge-3.is))
+returns-in-At-first_bad_edge-3 c =
+    ap told c.bad_entry-in-At-first_bad_edge-3.ensures ∙ sym
+    (past_justice (goal.at.returns-in-At-first_bad_edge-3 c).Else-not-is_done ∙ stage_stops _ _ (sym c.first_bad_edge-4.ensures ∙ c.in-At-first_bad_edge-3.is))
 
 pub returns-in-Nothing-first_bad_edge-3 : goal.returns-in-Nothing-first_bad_edge-3
-returns-in-Nothing-first_bad_edge-3 c = sym (past_justice (goal.at.returns-in-Nothing-first_bad_edge-3 c).Else-not-is_done ∙ (stage_goes _ _ (sym c.first_bad_edge-4.ensures ∙ c.in-Nothing-first_bad_edge-3.is) ∙ none_left))
+returns-in-Nothing-first_bad_edge-3 c =
+    sym (past_justice (goal.at.returns-in-Nothing-first_bad_edge-3 c).Else-not-is_done ∙ (stage_goes _ _ (sym c.first_bad_edge-4.ensures ∙ c.in-Nothing-first_bad_edge-3.is) ∙ none_left))

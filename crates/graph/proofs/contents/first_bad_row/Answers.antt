@@ -1,10 +1,7 @@
 -- `graph::contents::first_bad_row` meets its contract.
-use Prim.Native.Nat.{◌-◌, ◌≤◌}
 use native.Mathlib.Nat.{sub-zero}
-use mathlib.Core.Path.{◌≡◌, sym, ◌∙◌}
+use mathlib.Core.Path.{sym, ◌∙◌}
 use borrow.Author.Tests.{not-true, not-false}
-use Rattle.rows.specs.Rows.{row_at}
-use Rattle.graph.specs.Search.{first_bad}
 use Rattle.graph.proofs.Searching.{stops, goes_on, ended}
 use borrow.Author.Rules.{rules}
 use Rattle.graph.proofs.contents.first_bad_row.Goals as goal

@@ -1,11 +1,7 @@
 use Prim.Native.Nat.{◌-◌, ◌≤◌}
-use native.Mathlib.Nat.{sub-zero}
-use mathlib.Core.Path.{◌≡◌, sym, ◌∙◌}
-use borrow.Author.Tests.{not-true, not-false}
+use mathlib.Core.Path.{◌≡◌}
 use Rattle.rows.specs.Rows.{row_at}
 use Rattle.graph.specs.Search.{first_bad}
-use Rattle.graph.proofs.Searching.{stops, goes_on, ended}
-use borrow.Author.Rules.{rules}
 use Rattle.graph.proofs.contents.first_bad_row.Given as goal
 
 abbrev pub invariant-loop-i : goal.invariant-loop-i

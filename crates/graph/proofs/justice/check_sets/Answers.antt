@@ -1,14 +1,10 @@
 -- `graph::justice::check_sets` meets its contract.
-use Prim.Native.Nat.{◌-◌, ◌≤◌}
 use native.Mathlib.Omega.{arith}
 use native.Mathlib.Nat.{sub-zero, le_antisymm}
-use mathlib.Core.Path.{◌≡◌, refl, sym, ap, ◌∙◌}
+use mathlib.Core.Path.{refl, sym, ap, ◌∙◌}
 use lib.ListN.{get_or}
 use borrow.Author.Tests.{not-true, not-false}
-use Rattle.edge.specs.declared.answer.Answer.TheVariants.{Done}
 use Rattle.edge.specs.Answers.{told}
-use Rattle.graph.specs.Search.{first_bad}
-use Rattle.graph.specs.Leaves.{good_edge}
 use Rattle.graph.specs.Justice.{start}
 use Rattle.graph.specs.Check.{set_stage}
 use Rattle.graph.proofs.Searching.{stops, goes_on, ended}

@@ -1,19 +1,9 @@
 use Prim.Native.Nat.{◌-◌, ◌≤◌}
-use native.Mathlib.Omega.{arith}
-use native.Mathlib.Nat.{sub-zero, le_antisymm}
-use mathlib.Core.Path.{◌≡◌, refl, sym, ap, ◌∙◌}
-use lib.ListN.{get_or}
-use borrow.Author.Tests.{not-true, not-false}
+use mathlib.Core.Path.{◌≡◌}
 use Rattle.edge.specs.declared.answer.Answer.TheVariants.{Done}
-use Rattle.edge.specs.Answers.{told}
 use Rattle.graph.specs.Search.{first_bad}
 use Rattle.graph.specs.Leaves.{good_edge}
 use Rattle.graph.specs.Justice.{start}
-use Rattle.graph.specs.Check.{set_stage}
-use Rattle.graph.proofs.Searching.{stops, goes_on, ended}
-use Rattle.graph.proofs.Stages.{stage_stops, stage_goes, none_left}
-use Rattle.graph.proofs.Sets.{End, start_next, end_at, set_of_lem, covered}
-use borrow.Author.Rules.{rules}
 use Rattle.graph.proofs.justice.check_sets.Given as goal
 
 abbrev pub invariant-loop-k : goal.invariant-loop-k

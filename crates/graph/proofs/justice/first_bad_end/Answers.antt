@@ -1,11 +1,9 @@
 -- `graph::justice::first_bad_end` meets its contract.
-use Prim.Native.Nat.{◌-◌, ◌≤◌}
 use native.Mathlib.Omega.{arith}
 use native.Mathlib.Nat.{sub-zero}
 use mathlib.Core.Path.{◌≡◌, refl, sym, ◌∙◌}
 use borrow.Author.Tests.{not-true, not-false}
-use Rattle.graph.specs.Search.{first_bad}
-use Rattle.graph.specs.Justice.{start, good_end}
+use Rattle.graph.specs.Justice.{good_end}
 use Rattle.graph.proofs.Searching.{stops, goes_on, ended}
 use Rattle.graph.proofs.Sets.{start_next}
 use borrow.Author.Rules.{rules}

@@ -3,7 +3,6 @@ use native.Mathlib.Omega.{arith}
 use mathlib.Core.Path.{refl}
 use lib.ListN.{length-set}
 use Rattle.graph.specs.Latches.{latch_set}
-use borrow.Author.Rules.{rules}
 use Rattle.graph.proofs.latch.write_latch.Goals as goal
 
 pub bounds-latches-at-2 : goal.bounds-latches-at-2

@@ -2,7 +2,6 @@
 use mathlib.Core.Path.{refl, sym}
 use borrow.Author.Tests.{lt-ltb, le-ltb}
 use Rattle.graph.specs.Steps.{unmarked_leaf}
-use borrow.Author.Rules.{rules}
 use Rattle.graph.proofs.leaves.claim.Goals as goal
 
 pub returns-then-used-i : goal.returns-then-used-i

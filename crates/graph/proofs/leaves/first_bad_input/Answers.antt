@@ -1,12 +1,11 @@
 -- `graph::leaves::first_bad_input` meets its contract.
-use Prim.Native.Nat.{◌-◌, ◌≤◌, ◌<◌}
+use Prim.Native.Nat.{◌<◌}
 use native.Mathlib.Omega.{arith}
 use native.Mathlib.Nat.{sub-zero, le_antisymm}
 use mathlib.Core.Path.{◌≡◌, refl, sym, ◌∙◌}
 use borrow.Author.Tests.{not-true, not-false}
-use lib.ListN.{length, take, drop}
-use Rattle.graph.specs.Search.{first_bad}
-use Rattle.graph.specs.Leaves.{good_input, Marks}
+use lib.ListN.{length}
+use Rattle.graph.specs.Leaves.{good_input}
 use Rattle.graph.proofs.Searching.{stops, goes_on, ended, at_nothing}
 use Rattle.graph.proofs.Marked.{take_more, claim_beyond, claim_free, claim_marks}
 use borrow.Author.Rules.{rules}
@@ -22,7 +21,9 @@ pub loop-i-init : goal.loop-i-init
 loop-i-init c = (search rules, refl, refl, c.requires.marks, rw sub-zero)
 
 pub returns-then-not-claim : goal.returns-then-not-claim
-returns-then-not-claim c = let stopped = c.loop-i.invariant.4 ∙ stops _ _ _ c.loop-i-test.true (sym (judged (goal.at.returns-then-not-claim c).After-claim) ∙ not-true _ c.if-not-claim.true-raw) in record { value = sym stopped; marks_unchanged = claim_beyond _ _ _ _ _ _ c.claim.ensures.value c.claim.ensures.marks_after ∙ c.loop-i.invariant.2; marks_2 = λ e. absurd (at_nothing e) }
+returns-then-not-claim c =
+    let stopped = c.loop-i.invariant.4 ∙ stops _ _ _ c.loop-i-test.true (sym (judged (goal.at.returns-then-not-claim c).After-claim) ∙ not-true _ c.if-not-claim.true-raw) in
+    record { value = sym stopped; marks_unchanged = claim_beyond _ _ _ _ _ _ c.claim.ensures.value c.claim.ensures.marks_after ∙ c.loop-i.invariant.2; marks_2 = λ e. absurd (at_nothing e) }
 
 pub loop-i-preserved : goal.loop-i-preserved
 loop-i-preserved c =
@@ -37,4 +38,9 @@ loop-i-preserved c =
     )
 
 pub returns : goal.returns
-returns c = record { value = sym (c.loop-i.invariant.4 ∙ ended _ _ _ c.loop-i-test.false); marks_unchanged = c.loop-i.invariant.2; marks_2 = λ _. rw (← (le_antisymm c.loop-i.invariant.0 c.loop-i-test.false)) c.loop-i.invariant.3 }
+returns c =
+    record {
+      value = sym (c.loop-i.invariant.4 ∙ ended _ _ _ c.loop-i-test.false);
+      marks_unchanged = c.loop-i.invariant.2;
+      marks_2 = λ _. rw (← (le_antisymm c.loop-i.invariant.0 c.loop-i-test.false)) c.loop-i.invariant.3;
+    }

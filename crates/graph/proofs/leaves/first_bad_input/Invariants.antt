@@ -1,14 +1,8 @@
-use Prim.Native.Nat.{◌-◌, ◌≤◌, ◌<◌}
-use native.Mathlib.Omega.{arith}
-use native.Mathlib.Nat.{sub-zero, le_antisymm}
-use mathlib.Core.Path.{◌≡◌, refl, sym, ◌∙◌}
-use borrow.Author.Tests.{not-true, not-false}
+use Prim.Native.Nat.{◌-◌, ◌≤◌}
+use mathlib.Core.Path.{◌≡◌}
 use lib.ListN.{length, take, drop}
 use Rattle.graph.specs.Search.{first_bad}
 use Rattle.graph.specs.Leaves.{good_input, Marks}
-use Rattle.graph.proofs.Searching.{stops, goes_on, ended, at_nothing}
-use Rattle.graph.proofs.Marked.{take_more, claim_beyond, claim_free, claim_marks}
-use borrow.Author.Rules.{rules}
 use Rattle.graph.proofs.leaves.first_bad_input.Given as goal
 
 abbrev pub invariant-loop-i : goal.invariant-loop-i

@@ -1,16 +1,14 @@
 -- `graph::leaves::first_bad_latch` meets its contract.
-use Prim.Native.Nat.{◌-◌, ◌≤◌}
 use native.Mathlib.Omega.{arith}
 use native.Mathlib.Nat.{sub-zero, le_antisymm}
 use mathlib.Core.Path.{◌≡◌, refl, sym, ap, ap₂, ◌∙◌}
 use mathlib.Core.Bool.{◌&&◌}
 use mathlib.Core.List.{◌++◌, append-nil}
 use borrow.Author.Tests.{not-true, not-false}
-use lib.ListN.{length, take, drop}
+use lib.ListN.{take}
 use Rattle.edge.proofs.Tests.{both}
-use Rattle.graph.specs.Search.{first_bad}
 use Rattle.graph.specs.Latches.{latch_inputs}
-use Rattle.graph.specs.Leaves.{free_leaf, latch_edges, good_latch, Marks}
+use Rattle.graph.specs.Leaves.{free_leaf, latch_edges, good_latch}
 use Rattle.graph.specs.declared.latch.Latch.{Latch}
 use Rattle.graph.proofs.Searching.{stops, goes_on, ended, at_nothing}
 use Rattle.graph.proofs.Marked.{inputs_more, claim_beyond, claim_free, claim_marks}
@@ -34,7 +32,10 @@ unfolding latch_inputs
 loop-i-init c = (search rules, refl, refl, rw append-nil c.requires.marks, rw sub-zero)
 
 pub returns-then-not-claim-latch_edges : goal.returns-then-not-claim-latch_edges
-returns-then-not-claim-latch_edges c = let stopped = c.loop-i.invariant.4 ∙ stops _ _ _ c.loop-i-test.true (sym (judged (goal.at.returns-then-not-claim-latch_edges c).After-latch_edges) ∙ not-true _ c.if-not-claim-latch_edges.true-raw) in record { value = sym stopped; marks_unchanged = claim_beyond _ _ _ _ _ _ c.claim.ensures.value c.claim.ensures.marks_after ∙ c.loop-i.invariant.2; marks_2 = λ e. absurd (at_nothing e) }
+returns-then-not-claim-latch_edges c =
+    let stopped = c.loop-i.invariant.4 ∙ stops _ _ _ c.loop-i-test.true
+    (sym (judged (goal.at.returns-then-not-claim-latch_edges c).After-latch_edges) ∙ not-true _ c.if-not-claim-latch_edges.true-raw) in
+    record { value = sym stopped; marks_unchanged = claim_beyond _ _ _ _ _ _ c.claim.ensures.value c.claim.ensures.marks_after ∙ c.loop-i.invariant.2; marks_2 = λ e. absurd (at_nothing e) }
 
 pub loop-i-preserved : goal.loop-i-preserved
 loop-i-preserved c = (
@@ -48,4 +49,9 @@ loop-i-preserved c = (
 )
 
 pub returns : goal.returns
-returns c = record { value = sym (c.loop-i.invariant.4 ∙ ended _ _ _ c.loop-i-test.false); marks_unchanged = c.loop-i.invariant.2; marks_2 = λ _. rw (← (le_antisymm c.loop-i.invariant.0 c.loop-i-test.false)) c.loop-i.invariant.3 }
+returns c =
+    record {
+      value = sym (c.loop-i.invariant.4 ∙ ended _ _ _ c.loop-i-test.false);
+      marks_unchanged = c.loop-i.invariant.2;
+      marks_2 = λ _. rw (← (le_antisymm c.loop-i.invariant.0 c.loop-i-test.false)) c.loop-i.invariant.3;
+    }

@@ -1,6 +1,5 @@
 -- `graph::leaves::latch_edges` meets its contract.
 use Rattle.graph.specs.Leaves.{latch_edges}
-use borrow.Author.Rules.{rules}
 use Rattle.graph.proofs.leaves.latch_edges.Goals as goal
 
 pub returns : goal.returns

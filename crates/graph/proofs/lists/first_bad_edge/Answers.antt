@@ -1,10 +1,7 @@
 -- `graph::lists::first_bad_edge` meets its contract.
-use Prim.Native.Nat.{◌-◌, ◌≤◌}
 use native.Mathlib.Nat.{sub-zero}
-use mathlib.Core.Path.{◌≡◌, sym, ◌∙◌}
+use mathlib.Core.Path.{sym, ◌∙◌}
 use borrow.Author.Tests.{not-true, not-false}
-use Rattle.graph.specs.Search.{first_bad}
-use Rattle.graph.specs.Leaves.{good_edge}
 use Rattle.graph.proofs.Searching.{stops, goes_on, ended}
 use borrow.Author.Rules.{rules}
 use Rattle.graph.proofs.lists.first_bad_edge.Goals as goal

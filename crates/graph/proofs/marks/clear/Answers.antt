@@ -1,12 +1,11 @@
 -- `graph::marks::clear` meets its contract.
-use Prim.Native.Nat.{ℕ, ◌-◌, ◌≤◌}
+use Prim.Native.Nat.{ℕ}
 use native.Mathlib.Omega.{arith}
 use native.Mathlib.Nat.{le_antisymm}
-use mathlib.Core.Path.{◌≡◌, ap, ◌∙◌}
+use mathlib.Core.Path.{ap, ◌∙◌}
 use mathlib.Core.List.{List}
-use lib.ListN.{length, set}
+use lib.ListN.{set}
 use borrow.Author.Fill.{fill_more}
-use Rattle.graph.specs.Check.{cleared}
 use borrow.Author.Rules.{rules}
 use Rattle.graph.proofs.marks.clear.Goals as goal
 

@@ -1,12 +1,7 @@
-use Prim.Native.Nat.{ℕ, ◌-◌, ◌≤◌}
-use native.Mathlib.Omega.{arith}
-use native.Mathlib.Nat.{le_antisymm}
-use mathlib.Core.Path.{◌≡◌, ap, ◌∙◌}
-use mathlib.Core.List.{List}
-use lib.ListN.{length, set}
-use borrow.Author.Fill.{fill_more}
+use Prim.Native.Nat.{◌-◌, ◌≤◌}
+use mathlib.Core.Path.{◌≡◌}
+use lib.ListN.{length}
 use Rattle.graph.specs.Check.{cleared}
-use borrow.Author.Rules.{rules}
 use Rattle.graph.proofs.marks.clear.Given as goal
 
 abbrev pub invariant-loop-i : goal.invariant-loop-i

@@ -1,6 +1,5 @@
 -- `graph::sizes::sizes` meets its contract.
 use Rattle.graph.specs.Graph.{sizes_right}
-use borrow.Author.Rules.{rules}
 use Rattle.graph.proofs.sizes.sizes.Goals as goal
 
 pub returns : goal.returns

@@ -41,4 +41,7 @@ pub shape_of-marks : goal.shape_of-marks
 shape_of-marks c = c.loop-i.invariant.2.long
 
 pub returns : goal.returns
-returns c = record { value = rw (le_antisymm c.loop-i.invariant.0 c.loop-i-test.false) at c.loop-i.invariant.2.count; marks_after = rw (le_antisymm c.loop-i.invariant.0 c.loop-i-test.false) at c.loop-i.invariant.2.is }
+returns c =
+    record
+    {value = rw (le_antisymm c.loop-i.invariant.0 c.loop-i-test.false) at c.loop-i.invariant.2.count;
+    marks_after = rw (le_antisymm c.loop-i.invariant.0 c.loop-i-test.false) at c.loop-i.invariant.2.is }

@@ -12,4 +12,5 @@ slice_bounds-add_list-end c = sym (length-take-le c.args.n c.args.bads.now c.req
 pub add_list-requires : goal.add_list-requires
 add_list-requires c =
     let a = c.args in
-    let l : length (take a.n a.bads.now) ≡ a.n = length-take-le a.n a.bads.now c.requires.has in record { used_bound = omega (arith, c.requires.few); edges_len_bound = omega (arith, c.requires.limited) }
+    let l : length (take a.n a.bads.now) ≡ a.n = length-take-le a.n a.bads.now c.requires.has in
+    record { used_bound = omega (arith, c.requires.few); edges_len_bound = omega (arith, c.requires.limited) }

@@ -67,4 +67,6 @@ loop-i-preserved c = (
 )
 
 pub returns : goal.returns
-returns c = let e = le_antisymm c.loop-i.invariant.0 c.loop-i-test.false in record { out_after = rw e at c.loop-i.invariant.4; marks_hold = (rw e at c.loop-i.invariant.5).below; marks_unchanged = c.loop-i.invariant.6 }
+returns c =
+    let e = le_antisymm c.loop-i.invariant.0 c.loop-i-test.false in
+    record { out_after = rw e at c.loop-i.invariant.4; marks_hold = (rw e at c.loop-i.invariant.5).below; marks_unchanged = c.loop-i.invariant.6 }

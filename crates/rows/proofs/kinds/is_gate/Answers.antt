@@ -1,7 +1,6 @@
 -- `rows::kinds::is_gate` meets its contract.
 use Rattle.rows.specs.Rows.{is_gate}
 use Rattle.rows.proofs.Laws.{id_below}
-use borrow.Author.Rules.{rules}
 use Rattle.rows.proofs.kinds.is_gate.Goals as goal
 
 pub returns : goal.returns

@@ -1,6 +1,5 @@
 -- `rows::kinds::is_row` meets its contract.
 use mathlib.Core.Path.{sym, ◌∙◌}
-use borrow.Author.Rules.{rules}
 use borrow.Author.Tests.{lt-ltb, le-ltb}
 use Rattle.rows.specs.Rows.{is_row, is_false_row, is_leaf}
 use Rattle.rows.proofs.Laws.{gate_by_larger, gate_first, gate_else}

@@ -4,7 +4,6 @@ use borrow.Author.Tests.{eqb-true}
 use Rattle.edge.proofs.Answers.{test_done, test_refused}
 use Rattle.rows.specs.Reading.{fanin_call}
 use Rattle.rows.proofs.Laws.{gate_there}
-use borrow.Author.Rules.{rules}
 use Rattle.rows.proofs.reading.fanin.Goals as goal
 
 pub returns-then-not-is_done : goal.returns-then-not-is_done

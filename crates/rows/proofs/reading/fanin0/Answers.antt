@@ -1,7 +1,6 @@
 -- `rows::reading::fanin0` meets its contract.
 use mathlib.Core.Path.{ap}
 use Rattle.rows.specs.Reading.{first_seen}
-use borrow.Author.Rules.{rules}
 use Rattle.rows.proofs.reading.fanin0.Goals as goal
 
 pub returns : goal.returns

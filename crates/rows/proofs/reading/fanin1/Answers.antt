@@ -1,7 +1,6 @@
 -- `rows::reading::fanin1` meets its contract.
 use mathlib.Core.Path.{ap}
 use Rattle.rows.specs.Reading.{second_seen}
-use borrow.Author.Rules.{rules}
 use Rattle.rows.proofs.reading.fanin1.Goals as goal
 
 pub returns : goal.returns

@@ -1,6 +1,5 @@
 -- `rows::reading::gate_read` meets its contract.
 use Rattle.rows.proofs.Laws.{no_gate, gate_or_refused}
-use borrow.Author.Rules.{rules}
 use Rattle.rows.proofs.reading.gate_read.Goals as goal
 
 pub returns-then-is_done-gate : goal.returns-then-is_done-gate

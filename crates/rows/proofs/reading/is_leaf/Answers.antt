@@ -4,7 +4,6 @@ use borrow.Author.Tests.{eqb-true}
 use Rattle.edge.proofs.Answers.{test_done, test_refused}
 use Rattle.rows.specs.Reading.{is_leaf_call}
 use Rattle.rows.proofs.Laws.{row_there}
-use borrow.Author.Rules.{rules}
 use Rattle.rows.proofs.reading.is_leaf.Goals as goal
 
 pub returns-then-not-is_done : goal.returns-then-not-is_done

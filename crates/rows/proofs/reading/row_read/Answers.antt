@@ -2,7 +2,6 @@
 use borrow.Author.Tests.{lt-ltb, le-ltb, not-true, not-false}
 use mathlib.Core.Path.{sym, ◌∙◌}
 use Rattle.rows.specs.Reading.{row_read}
-use borrow.Author.Rules.{rules}
 use Rattle.rows.proofs.reading.row_read.Goals as goal
 
 pub returns-then-not-rows_fit : goal.returns-then-not-rows_fit

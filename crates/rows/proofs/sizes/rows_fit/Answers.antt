@@ -1,6 +1,5 @@
 -- `rows::sizes::rows_fit` meets its contract.
 use Rattle.rows.specs.Sizes.{rows_fit}
-use borrow.Author.Rules.{rules}
 use Rattle.rows.proofs.sizes.rows_fit.Goals as goal
 
 pub returns : goal.returns

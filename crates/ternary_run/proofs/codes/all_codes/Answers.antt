@@ -1,9 +1,6 @@
 -- `ternary_run::codes::all_codes` meets its contract.
-use Prim.Native.Nat.{◌-◌, ◌≤◌}
 use native.Mathlib.Omega.{arith}
-use mathlib.Core.Path.{◌≡◌, refl, sym, ◌∙◌}
-use lib.ListN.{length, drop}
-use Rattle.ternary_run.specs.Codes.{all_codes}
+use mathlib.Core.Path.{refl, sym, ◌∙◌}
 use Rattle.ternary_run.proofs.Coding.{codes_end, codes_stop, codes_go}
 use borrow.Author.Rules.{rules}
 use Rattle.ternary_run.proofs.codes.all_codes.Goals as goal

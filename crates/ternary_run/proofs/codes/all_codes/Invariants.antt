@@ -1,10 +1,7 @@
 use Prim.Native.Nat.{◌-◌, ◌≤◌}
-use native.Mathlib.Omega.{arith}
-use mathlib.Core.Path.{◌≡◌, refl, sym, ◌∙◌}
+use mathlib.Core.Path.{◌≡◌}
 use lib.ListN.{length, drop}
 use Rattle.ternary_run.specs.Codes.{all_codes}
-use Rattle.ternary_run.proofs.Coding.{codes_end, codes_stop, codes_go}
-use borrow.Author.Rules.{rules}
 use Rattle.ternary_run.proofs.codes.all_codes.Given as goal
 
 abbrev pub invariant-loop-i : goal.invariant-loop-i

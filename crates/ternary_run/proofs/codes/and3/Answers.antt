@@ -1,6 +1,5 @@
 -- `ternary_run::codes::and3` meets its contract.
 use Rattle.ternary_run.proofs.Coding.{table_rule}
-use borrow.Author.Rules.{rules}
 use Rattle.ternary_run.proofs.codes.and3.Goals as goal
 
 pub returns : goal.returns

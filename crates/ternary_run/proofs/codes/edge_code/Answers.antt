@@ -1,7 +1,6 @@
 -- `ternary_run::codes::edge_code` meets its contract.
 use mathlib.Core.Path.{sym, ◌∙◌}
 use Rattle.ternary_run.specs.Codes.{edge3}
-use borrow.Author.Rules.{rules}
 use Rattle.ternary_run.proofs.codes.edge_code.Goals as goal
 
 pub returns-then-compl : goal.returns-then-compl

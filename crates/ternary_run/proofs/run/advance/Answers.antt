@@ -1,10 +1,10 @@
 -- `ternary_run::run::advance` meets its contract.
-use Prim.Native.Nat.{ℕ, ◌-◌, ◌≤◌}
+use Prim.Native.Nat.{ℕ}
 use native.Mathlib.Omega.{arith}
 use native.Mathlib.Nat.{le_antisymm}
-use mathlib.Core.Path.{◌≡◌, refl, ap, ◌∙◌}
-use mathlib.Core.List.{List, ◌++◌}
-use lib.ListN.{length, set, drop}
+use mathlib.Core.Path.{refl, ap, ◌∙◌}
+use mathlib.Core.List.{List}
+use lib.ListN.{set}
 use Rattle.graph.specs.declared.latch.Latch.{Latch}
 use Rattle.ternary_run.specs.Codes.{edge3}
 use Rattle.ternary_run.specs.Run.{nexts}

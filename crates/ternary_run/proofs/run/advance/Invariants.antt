@@ -1,14 +1,8 @@
-use Prim.Native.Nat.{ℕ, ◌-◌, ◌≤◌}
-use native.Mathlib.Omega.{arith}
-use native.Mathlib.Nat.{le_antisymm}
-use mathlib.Core.Path.{◌≡◌, refl, ap, ◌∙◌}
-use mathlib.Core.List.{List, ◌++◌}
-use lib.ListN.{length, set, drop}
-use Rattle.graph.specs.declared.latch.Latch.{Latch}
-use Rattle.ternary_run.specs.Codes.{edge3}
+use Prim.Native.Nat.{◌-◌, ◌≤◌}
+use mathlib.Core.Path.{◌≡◌}
+use mathlib.Core.List.{◌++◌}
+use lib.ListN.{length, drop}
 use Rattle.ternary_run.specs.Run.{nexts}
-use Rattle.ternary_run.proofs.Running.{nexts_turn}
-use borrow.Author.Rules.{rules}
 use Rattle.ternary_run.proofs.run.advance.Given as goal
 
 abbrev pub invariant-loop-i : goal.invariant-loop-i

@@ -1,10 +1,10 @@
 -- `ternary_run::run::blank` meets its contract.
-use Prim.Native.Nat.{ℕ, ◌-◌, ◌≤◌}
+use Prim.Native.Nat.{ℕ}
 use native.Mathlib.Omega.{arith}
 use native.Mathlib.Nat.{le_antisymm}
-use mathlib.Core.Path.{◌≡◌, refl, ap, ◌∙◌}
-use mathlib.Core.List.{List, ◌++◌}
-use lib.ListN.{length, set, drop, replicate, length-replicate}
+use mathlib.Core.Path.{refl, ap, ◌∙◌}
+use mathlib.Core.List.{List}
+use lib.ListN.{set, drop, replicate, length-replicate}
 use lib.Seq.{set-append_left}
 use borrow.Author.Fill.{fill_more}
 use Rattle.ternary_run.specs.Codes.{unknown}

@@ -1,10 +1,10 @@
 -- `ternary_run::run::place_inputs` meets its contract.
-use Prim.Native.Nat.{ℕ, ◌-◌, ◌≤◌}
+use Prim.Native.Nat.{ℕ}
 use native.Mathlib.Omega.{arith}
 use native.Mathlib.Nat.{le_antisymm}
-use mathlib.Core.Path.{◌≡◌, refl, ap, ◌∙◌}
+use mathlib.Core.Path.{refl, ap, ◌∙◌}
 use mathlib.Core.List.{List}
-use lib.ListN.{length, get_or, set}
+use lib.ListN.{get_or, set}
 use Rattle.ternary_run.specs.Run.{placed, input_row}
 use Rattle.ternary_run.proofs.Running.{placed_more}
 use borrow.Author.Rules.{rules}

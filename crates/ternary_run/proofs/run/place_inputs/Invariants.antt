@@ -1,12 +1,7 @@
-use Prim.Native.Nat.{ℕ, ◌-◌, ◌≤◌}
-use native.Mathlib.Omega.{arith}
-use native.Mathlib.Nat.{le_antisymm}
-use mathlib.Core.Path.{◌≡◌, refl, ap, ◌∙◌}
-use mathlib.Core.List.{List}
-use lib.ListN.{length, get_or, set}
+use Prim.Native.Nat.{◌-◌, ◌≤◌}
+use mathlib.Core.Path.{◌≡◌}
+use lib.ListN.{length}
 use Rattle.ternary_run.specs.Run.{placed, input_row}
-use Rattle.ternary_run.proofs.Running.{placed_more}
-use borrow.Author.Rules.{rules}
 use Rattle.ternary_run.proofs.run.place_inputs.Given as goal
 
 abbrev pub invariant-loop-i : goal.invariant-loop-i

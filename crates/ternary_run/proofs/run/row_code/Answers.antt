@@ -5,7 +5,6 @@ use Rattle.rows.proofs.Laws.{gate_below}
 use Rattle.ternary_run.specs.Codes.{and3}
 use Rattle.ternary_run.proofs.Coding.{edge_code}
 use Rattle.ternary_run.proofs.Running.{row_gate, row_other}
-use borrow.Author.Rules.{rules}
 use Rattle.ternary_run.proofs.run.row_code.Goals as goal
 
 pub edge_code-requires : goal.edge_code-requires

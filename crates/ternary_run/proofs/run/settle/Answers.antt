@@ -1,10 +1,7 @@
 -- `ternary_run::run::settle` meets its contract.
-use Prim.Native.Nat.{◌-◌, ◌≤◌}
 use native.Mathlib.Omega.{arith}
 use native.Mathlib.Nat.{le_antisymm}
-use mathlib.Core.Path.{◌≡◌, refl}
-use mathlib.Core.List.{◌++◌}
-use lib.ListN.{length, drop}
+use mathlib.Core.Path.{refl}
 use Rattle.ternary_run.specs.Run.{rows3}
 use Rattle.ternary_run.proofs.Running.{turn_codes, turn}
 use borrow.Author.Rules.{rules}

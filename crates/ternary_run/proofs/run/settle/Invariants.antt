@@ -1,12 +1,8 @@
 use Prim.Native.Nat.{◌-◌, ◌≤◌}
-use native.Mathlib.Omega.{arith}
-use native.Mathlib.Nat.{le_antisymm}
-use mathlib.Core.Path.{◌≡◌, refl}
+use mathlib.Core.Path.{◌≡◌}
 use mathlib.Core.List.{◌++◌}
 use lib.ListN.{length, drop}
 use Rattle.ternary_run.specs.Run.{rows3}
-use Rattle.ternary_run.proofs.Running.{turn_codes, turn}
-use borrow.Author.Rules.{rules}
 use Rattle.ternary_run.proofs.run.settle.Given as goal
 
 abbrev pub invariant-loop-i : goal.invariant-loop-i

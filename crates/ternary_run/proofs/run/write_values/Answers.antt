@@ -2,7 +2,6 @@
 use native.Mathlib.Omega.{arith}
 use mathlib.Core.Path.{◌∙◌}
 use Rattle.ternary_run.proofs.Running.{placed_codes, run_whole}
-use borrow.Author.Rules.{rules}
 use Rattle.ternary_run.proofs.run.write_values.Goals as goal
 
 pub place_inputs-requires : goal.place_inputs-requires
@@ -16,7 +15,9 @@ place_latches-requires c =
     (r.latches_lent_lem, omega (arith, r.state_long), λ i l. omega (arith, r.latch_rows i l, r.values_lent))
 
 pub settle-requires : goal.settle-requires
-settle-requires c = let r = c.requires in record { used_in_bounds = (r.rows_lent_lem, omega (arith, r.values_lent)); codes = placed_codes _ _ _ _ _ _ _ r _ _ _ c.blank.ensures c.place_inputs.ensures c.place_latches.ensures }
+settle-requires c =
+    let r = c.requires in
+    record { used_in_bounds = (r.rows_lent_lem, omega (arith, r.values_lent)); codes = placed_codes _ _ _ _ _ _ _ r _ _ _ c.blank.ensures c.place_inputs.ensures c.place_latches.ensures }
 
 pub returns : goal.returns
 returns c =
