@@ -5,7 +5,7 @@ use native.Mathlib.Omega.{arith}
 use native.Mathlib.Nat.{eq-or-lt_of_le}
 use mathlib.Core.Path.{◌≡◌, refl, sym, ap, ap₂, ◌∙◌}
 use mathlib.Core.Bool.{Bool, true, false, ◌&&◌}
-use mathlib.Core.Logic.{◌⊎◌, inl, inr, ⊎_elim}
+use mathlib.Core.Logic.{inl, inr, ⊎_elim}
 use mathlib.Core.List.{List}
 use lib.ListN.{length, get_or, set, replicate, get_or-replicate, length-set, length-replicate}
 use lib.Seq.{get_or-set_same, get_or-set_other}
@@ -23,7 +23,6 @@ use Rattle.rows.proofs.Value.{value_zero, value_leaf, leaf_no_gate, values}
 use Rattle.graph.specs.Latches.{latch_at, latch_inputs}
 use Rattle.graph.specs.Leaves.{member}
 use Rattle.graph.specs.Graph.{Lent}
-use Rattle.graph.specs.WellFormed.{listed}
 use Rattle.graph.proofs.Listed.{stands, is_member, inputs_long, all_long, latch_at_lem}
 use Rattle.gates.specs.Gates.{state}
 use Rattle.gates.proofs.Meaning.{grows_value, grows_edge, and_value}

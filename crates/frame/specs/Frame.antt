@@ -1,6 +1,6 @@
 -- One frame of `unroll`: the rows of a graph built once more, over a map from its rows to edges.
 -- Assumes nothing.
-use Rattle.std.specs.Prelude.{ℕ, zero, suc, ◌+◌, ◌-◌, ◌*◌, List, Bool, cond, get_or, set, eqb}
+use Rattle.std.specs.Prelude.{ℕ, zero, suc, ◌+◌, ◌*◌, List, Bool, cond, get_or, set, eqb}
 use Rattle.rows.specs.Rows.{none, word0, word1, gate_at}
 use Rattle.graph.specs.declared.Counts.{Counts}
 use Rattle.graph.specs.Graph.{Lent}

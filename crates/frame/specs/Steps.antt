@@ -5,7 +5,7 @@ use Rattle.edge.specs.Edges.{id_of}
 use Rattle.rows.specs.Rows.{none, word0, AllRows}
 use Rattle.graph.specs.declared.Counts.{Counts}
 use Rattle.graph.specs.Latches.{latch_words, latch_at}
-use Rattle.renumber.specs.Renumber.{Lists, lists}
+use Rattle.renumber.specs.Renumber.{Lists}
 use Rattle.renumber.specs.Steps.{ListsUsed}
 use Rattle.graph.specs.Graph.{Lent}
 use Rattle.output.specs.Room.{Room}

@@ -1,7 +1,6 @@
 -- What `merge` writes: the rows and entries of a second graph, renumbered, behind those of the first.
 -- Assumes nothing.
 use Rattle.std.specs.Prelude.{ℕ, ◌+◌, ◌-◌, ◌*◌, cond, drop, eqb}
-use Rattle.rows.specs.Rows.{none}
 use Rattle.graph.specs.declared.Counts.{Counts}
 use Rattle.graph.specs.Graph.{Lent}
 use Rattle.graph.specs.WellFormed.{WellFormed}

@@ -1,6 +1,6 @@
 -- What only the proofs need: what a step asks of its caller, and what its functions count on the way.
 -- Assumes nothing.
-use Rattle.std.specs.Prelude.{ℕ, ◌+◌, ◌-◌, ◌≤◌, ◌<◌, ◌≡◌, List, length, get_or}
+use Rattle.std.specs.Prelude.{ℕ, ◌+◌, ◌≤◌, ◌<◌, ◌≡◌, List, length, get_or}
 use Rattle.edge.specs.Edges.{id_of}
 use Rattle.rows.specs.Sizes.{max_rows}
 use Rattle.rows.specs.Rows.{none}

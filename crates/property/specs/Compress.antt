@@ -6,7 +6,7 @@ use Rattle.rows.specs.Reading.{if_done}
 use Rattle.graph.specs.declared.Counts.{Counts}
 use Rattle.graph.specs.Graph.{Lent, lent}
 use Rattle.graph.specs.Check.{CheckSeen}
-use Rattle.gates.specs.Gates.{State, state}
+use Rattle.gates.specs.Gates.{State}
 use Rattle.gates.specs.Lists.{list_of}
 use Rattle.renumber.specs.declared.Rebuilt.{Rebuilt}
 use Rattle.renumber.specs.Seen.{ListedSeen, listed_seen, SameListed, listed_determined}

@@ -4,7 +4,6 @@ use Rattle.std.specs.Prelude.{ℕ, ◌+◌, ◌≤◌, ◌<◌, ◌≡◌, Bool,
 use Rattle.edge.specs.Answers.{done}
 use Rattle.rows.specs.Sizes.{rows_lent}
 use Rattle.rows.specs.Rows.{none}
-use Rattle.rows.specs.Value.{value}
 use Rattle.graph.specs.Latches.{latches_lent, latch_at}
 use Rattle.graph.specs.Graph.{Lent, lent, Sized, value_in}
 use Rattle.graph.specs.WellFormed.{UsedLeaf, WellFormed}

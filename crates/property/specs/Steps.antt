@@ -8,7 +8,7 @@ use Rattle.gates.specs.Lists.{list_of}
 use Rattle.output.specs.Copying.{copied}
 use Rattle.output.specs.Steps.{WordsFit}
 use Rattle.graph.specs.declared.latch.Latch.{Latch}
-use Rattle.graph.specs.Latches.{latch_words, latch, latch_at}
+use Rattle.graph.specs.Latches.{latch_words, latch_at}
 use Rattle.property.specs.declared.gate_init.Gated.{Gated}
 use Rattle.property.specs.GateInit.{is_gated, Gating, gating, Part, none_gated}
 

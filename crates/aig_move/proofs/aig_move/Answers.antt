@@ -1,7 +1,6 @@
 -- `aig_move::aig_move` meets its contract.
-use Rattle.graph.specs.Graph.{Lent, lent}
+use Rattle.graph.specs.Graph.{lent}
 use Rattle.aig_move.proofs.Call.{counts_stay, move_refused, counts_found, ready_to_write, move_done}
-use borrow.Author.Rules.{rules}
 use Rattle.aig_move.proofs.aig_move.Goals as goal
 
 pub write-requires : goal.write-requires

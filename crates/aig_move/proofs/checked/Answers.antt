@@ -1,7 +1,6 @@
 -- `aig_move::checked` meets its contract.
-use Rattle.graph.specs.Graph.{Lent, lent}
+use Rattle.graph.specs.Graph.{lent}
 use Rattle.aig_move.proofs.Call.{checked_refused, to_make, few_latches, no_room_lem, all_found}
-use borrow.Author.Rules.{rules}
 use Rattle.aig_move.proofs.checked.Goals as goal
 
 pub returns-then-not-is_done : goal.returns-then-not-is_done

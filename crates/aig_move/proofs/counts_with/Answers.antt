@@ -1,7 +1,6 @@
 -- `aig_move::counts_with` meets its contract.
 use mathlib.Core.Path.{refl}
 use Rattle.aig_move.specs.Moving.{counts_with}
-use borrow.Author.Rules.{rules}
 use Rattle.aig_move.proofs.counts_with.Goals as goal
 
 pub returns : goal.returns

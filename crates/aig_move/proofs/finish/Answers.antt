@@ -3,7 +3,6 @@ use native.Mathlib.Omega.{arith}
 use mathlib.Core.Path.{ap, ◌∙◌}
 use Rattle.graph.specs.Latches.{latch_set}
 use Rattle.aig_move.proofs.Copied.{rows_done, latch_done, bad_done, output_done}
-use borrow.Author.Rules.{rules}
 use Rattle.aig_move.proofs.finish.Goals as goal
 
 pub replace_first-requires-2 : goal.replace_first-requires-2

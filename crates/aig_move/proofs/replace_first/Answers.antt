@@ -1,6 +1,5 @@
 -- `aig_move::replace_first` meets its contract.
 use Rattle.aig_move.proofs.Steps.{first_set_lem, none_set}
-use borrow.Author.Rules.{rules}
 use Rattle.aig_move.proofs.replace_first.Goals as goal
 
 pub returns-then-n-gt0 : goal.returns-then-n-gt0

@@ -1,9 +1,7 @@
 -- `aig_move::write` meets its contract.
-use mathlib.Core.Path.{◌∙◌}
-use Rattle.graph.specs.Graph.{Lent, lent}
+use Rattle.graph.specs.Graph.{lent}
 use Rattle.aig_move.specs.Steps.{MoveReady}
 use Rattle.aig_move.proofs.Copied.{copy_fits, finish_ready, all_moved}
-use borrow.Author.Rules.{rules}
 use Rattle.aig_move.proofs.write.Goals as goal
 use Rattle.aig_move.proofs.write.Goals.{Start}
 

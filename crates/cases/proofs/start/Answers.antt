@@ -7,14 +7,14 @@ use borrow.Author.Rules.{rules}
 use Rattle.cases.proofs.start.Goals as goal
 
 pub loop-turns-smaller : goal.loop-turns-smaller
-loop-turns-smaller c = omega (arith, c.loop-turns-test.true)
+loop-turns-smaller g c = omega (arith, c.loop-turns-test.true)
 
 pub loop-turns-preserved : goal.loop-turns-preserved
-loop-turns-preserved c = (
-  c.next_case-case.auto.input ∙ c.loop-turns.invariant.0,
-  c.written-run.auto.output ∙ c.loop-turns.invariant.1,
-  c.made-o.auto.arena ∙ (c.next_case-case.auto.arena ∙ c.loop-turns.invariant.2),
-  c.next_case-case.auto.scalars ∙ c.loop-turns.invariant.3,
+loop-turns-preserved g c = (
+  c.next_case.auto.input ∙ c.loop-turns.invariant.0,
+  c.written.auto.output ∙ c.loop-turns.invariant.1,
+  c.made-o.auto.arena ∙ (c.next_case.auto.arena ∙ c.loop-turns.invariant.2),
+  c.next_case.auto.scalars ∙ c.loop-turns.invariant.3,
   c.made-o.auto.small ∙ c.loop-turns.invariant.4,
   c.made-o.auto.middle ∙ c.loop-turns.invariant.5,
   c.made-o.auto.large ∙ c.loop-turns.invariant.6,

@@ -4,7 +4,6 @@ use mathlib.Core.Path.{sym, ap, ◌∙◌}
 use lib.ListN.{length}
 use Rattle.frame.proofs.Ready.{part_long, map_part, map_cleared}
 use Rattle.frame.proofs.Bounding.{leaves_few, most_told}
-use borrow.Author.Rules.{rules}
 use Rattle.frame.proofs.most.Goals as goal
 
 pub slice_bounds-start_map-end-2 : goal.slice_bounds-start_map-end-2

@@ -2,9 +2,9 @@
 use native.Mathlib.Omega.{arith}
 use mathlib.Core.Path.{sym, ap, ◌∙◌}
 use lib.ListN.{length}
-use Rattle.graph.specs.Graph.{Lent, lent}
+use Rattle.graph.specs.Graph.{lent}
 use Rattle.frame.specs.Steps.{FrameRoom}
-use Rattle.frame.proofs.Ready.{addable, latches_within, from_words, few, lists_ready, part_long, map_part, map_cleared, marks_cover, marks_long, whole}
+use Rattle.frame.proofs.Ready.{addable, latches_within, from_words, few, lists_ready, part_long, map_part, map_cleared, marks_cover, whole}
 use Rattle.frame.proofs.write_frame.Goals as goal
 use Rattle.frame.proofs.write_frame.Goals.{Start}
 
@@ -28,9 +28,12 @@ frame_of-reached-requires c =
     c.args.fairness2.now c.args.counts2 in
     let a = c.args in
     let r = (right (goal.at.frame_of-reached-requires c).Start).ready in
-    rw (part_long a.counts2.rows a.marks.now r.from.marked) record
-    {all_rows = r.from_formed.rows; map_nonzero = (r.from.rows.some, from_words one other _ r, few one other _ r);
-    rows_le_max_rows = ((addable one _ r.target).rows, (addable one _ r.target).inputs); latches_within = latches_within one other _ r }
+    rw (part_long a.counts2.rows a.marks.now r.from.marked) record {
+      all_rows = r.from_formed.rows;
+      map_nonzero = (r.from.rows.some, from_words one other _ r, few one other _ r);
+      rows_le_max_rows = ((addable one _ r.target).rows, (addable one _ r.target).inputs);
+      latches_within = latches_within one other _ r;
+    }
 
 pub slice_bounds-grow_lists-end : goal.slice_bounds-grow_lists-end
 slice_bounds-grow_lists-end c =
@@ -83,6 +86,7 @@ returns c =
     let a = c.args in
     let h = (right (goal.at.returns c).Start).ready.from.marked in
     let k = c.frame_of-reached.auto.map ∙ part_long a.counts2.rows a.marks.now h in
-    record
-    {result_after = whole one other a.marks.now h c.frame_of-reached.ensures c.grow_lists.ensures c.raised.ensures;
-    marks_after = c.clear.ensures ∙ map_cleared a.counts2.rows a.marks.now h c.frame_of-reached.new.map k }
+    record {
+      result_after = whole one other a.marks.now h c.frame_of-reached.ensures c.grow_lists.ensures c.raised.ensures;
+      marks_after = c.clear.ensures ∙ map_cleared a.counts2.rows a.marks.now h c.frame_of-reached.new.map k;
+    }

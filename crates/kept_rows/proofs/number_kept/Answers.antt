@@ -1,6 +1,5 @@
 -- `kept_rows::number_kept` meets its contract.
 use Rattle.kept_rows.proofs.Stepping.{number_needs, ids_are, numbers_long, still_there, counted}
-use borrow.Author.Rules.{rules}
 use Rattle.kept_rows.proofs.number_kept.Goals as goal
 
 pub flag_kept-requires : goal.flag_kept-requires

@@ -1,5 +1,5 @@
 -- `marked::same` meets its contract. The two agree at every place below i. The measure is the number of words that are left.
-use Prim.Native.Nat.{ℕ, ◌-◌, ◌<◌, ◌≤◌}
+use Prim.Native.Nat.{ℕ}
 use native.Mathlib.Omega.{arith}
 use mathlib.Core.Path.{◌≡◌, refl, ap}
 use mathlib.Core.Bool.{true, false}

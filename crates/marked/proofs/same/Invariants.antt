@@ -1,13 +1,6 @@
 use Prim.Native.Nat.{ℕ, ◌-◌, ◌<◌, ◌≤◌}
-use native.Mathlib.Omega.{arith}
-use mathlib.Core.Path.{◌≡◌, refl, ap}
-use mathlib.Core.Bool.{true, false}
-use mathlib.Core.List.{List}
+use mathlib.Core.Path.{◌≡◌}
 use lib.ListN.{length, get_or}
-use lib.Seq.{ext_get_or}
-use borrow.Author.Count.{below_none, below_more}
-use borrow.Author.Rules.{rules}
-use Rattle.marked.proofs.Telling.{never, tells_same}
 use Rattle.marked.proofs.same.Given as goal
 
 abbrev pub invariant-loop-i : goal.invariant-loop-i

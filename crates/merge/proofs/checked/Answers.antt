@@ -1,8 +1,7 @@
 -- `merge::checked` meets its contract.
 use mathlib.Core.Path.{sym, ◌∙◌}
-use Rattle.graph.specs.Graph.{Lent, lent}
+use Rattle.graph.specs.Graph.{lent}
 use Rattle.merge.proofs.Call.{check_stops, both_addable, check_room, check_full}
-use borrow.Author.Rules.{rules}
 use Rattle.merge.proofs.checked.Goals as goal
 
 pub returns-then-not-is_done : goal.returns-then-not-is_done

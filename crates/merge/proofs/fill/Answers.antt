@@ -1,9 +1,7 @@
 -- `merge::fill` meets its contract.
-use Prim.Native.Nat.{◌-◌, ◌≤◌}
 use native.Mathlib.Omega.{arith}
 use native.Mathlib.Nat.{le_antisymm}
-use mathlib.Core.Path.{◌≡◌, refl}
-use lib.ListN.{length}
+use mathlib.Core.Path.{refl}
 use Rattle.output.specs.Writing.{written}
 use Rattle.merge.proofs.Ready.{filled_turn}
 use Rattle.merge.specs.Merge.{shifted}

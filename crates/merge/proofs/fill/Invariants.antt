@@ -1,12 +1,8 @@
 use Prim.Native.Nat.{◌-◌, ◌≤◌}
-use native.Mathlib.Omega.{arith}
-use native.Mathlib.Nat.{le_antisymm}
-use mathlib.Core.Path.{◌≡◌, refl}
+use mathlib.Core.Path.{◌≡◌}
 use lib.ListN.{length}
 use Rattle.output.specs.Writing.{written}
-use Rattle.merge.proofs.Ready.{filled_turn}
 use Rattle.merge.specs.Merge.{shifted}
-use borrow.Author.Rules.{rules}
 use Rattle.merge.proofs.fill.Given as goal
 
 abbrev pub invariant-loop-i : goal.invariant-loop-i

@@ -3,11 +3,10 @@ use Prim.Native.Nat.{ℕ}
 use mathlib.Core.Path.{◌≡◌, refl}
 use native.Mathlib.Omega.{arith}
 use lib.ListN.{length}
-use Rattle.graph.specs.Graph.{Lent, lent}
+use Rattle.graph.specs.Graph.{lent}
 use Rattle.merge.specs.Merge.{MergeLent}
 use Rattle.merge.proofs.Ready.{addable}
 use Rattle.merge.proofs.Call.{with_counts, merge_refused, ready, merge_done}
-use borrow.Author.Rules.{rules}
 use Rattle.merge.proofs.merge.Goals as goal
 use Rattle.merge.proofs.merge.Goals.{Else-not-is_done}
 

@@ -1,7 +1,6 @@
 -- `merge::shifted` meets its contract.
 use borrow.Author.Tests.{eq-eqb, ne_eqb}
 use Rattle.merge.specs.Merge.{shifted}
-use borrow.Author.Rules.{rules}
 use Rattle.merge.proofs.shifted.Goals as goal
 
 pub returns-then-i-eq0 : goal.returns-then-i-eq0

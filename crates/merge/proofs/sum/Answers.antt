@@ -2,7 +2,6 @@
 use native.Mathlib.Omega.{arith}
 use mathlib.Core.Path.{refl}
 use Rattle.merge.specs.Merge.{summed}
-use borrow.Author.Rules.{rules}
 use Rattle.merge.proofs.sum.Goals as goal
 
 pub overflow_add-result-5 : goal.overflow_add-result-5

@@ -1,12 +1,10 @@
 -- `merge::write` meets its contract.
 use native.Mathlib.Omega.{arith}
-use Prim.Native.Nat.{◌-◌}
 use lib.ListN.{length}
-use Rattle.graph.specs.Graph.{Lent, lent}
+use Rattle.graph.specs.Graph.{lent}
 use Rattle.renumber.specs.Steps.{MarksHold}
 use Rattle.merge.specs.Merge.{shifted, offset, MergeLent}
 use Rattle.merge.proofs.Ready.{few, tail, filled, map_cleared, rows_ready, inputs_ready, all_ready, whole}
-use borrow.Author.Rules.{rules}
 use Rattle.merge.proofs.write.Goals as goal
 use Rattle.merge.proofs.write.Goals.{After-fill, Start}
 

@@ -1,13 +1,9 @@
 use Prim.Native.Nat.{◌-◌, ◌≤◌}
-use native.Mathlib.Omega.{arith}
-use native.Mathlib.Nat.{le_antisymm}
-use mathlib.Core.Path.{◌≡◌, refl}
+use mathlib.Core.Path.{◌≡◌}
 use lib.ListN.{length}
 use Rattle.output.specs.Writing.{written}
 use Rattle.renumber.specs.Renumber.{edges_of}
-use Rattle.output.proofs.Writing.{written_turn}
 use Rattle.merge.specs.Merge.{shifted}
-use borrow.Author.Rules.{rules}
 use Rattle.merge.proofs.write_rows.Given as goal
 
 abbrev pub invariant-loop-j : goal.invariant-loop-j

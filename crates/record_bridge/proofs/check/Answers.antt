@@ -2,7 +2,6 @@
 use mathlib.Core.Path.{◌∙◌}
 use Rattle.records.specs.Checking.{check_with, check_refused}
 use Rattle.record_bridge.proofs.Meaning.{not_full, one_full}
-use borrow.Author.Rules.{rules}
 use Rattle.record_bridge.proofs.check.Goals as goal
 
 pub returns-then-latches : goal.returns-then-latches

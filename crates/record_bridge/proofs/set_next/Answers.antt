@@ -1,7 +1,6 @@
 -- `record_bridge::set_next` meets its contract.
 use mathlib.Core.Path.{◌∙◌}
 use Rattle.record_bridge.proofs.Meaning.{entry_not_full, entry_full}
-use borrow.Author.Rules.{rules}
 use Rattle.record_bridge.proofs.set_next.Goals as goal
 
 pub returns-then-latches : goal.returns-then-latches

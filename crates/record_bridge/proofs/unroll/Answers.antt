@@ -2,7 +2,6 @@
 use mathlib.Core.Path.{◌∙◌}
 use Rattle.record_unroll.specs.Call.{unroll_with, unroll_refused}
 use Rattle.record_bridge.proofs.Meaning.{first_not_full, second_not_full, both_full}
-use borrow.Author.Rules.{rules}
 use Rattle.record_bridge.proofs.unroll.Goals as goal
 
 pub returns-then-latches : goal.returns-then-latches

@@ -1,6 +1,6 @@
 -- `record_unroll::unroll` meets its contract.
-use Rattle.std.proofs.Common.{◌≡◌, ℕ, List, length, refl, ap, ◌∙◌}
-use Rattle.graph.specs.Graph.{Lent, lent}
+use Rattle.std.proofs.Common.{ℕ, List, length, refl, ap, ◌∙◌}
+use Rattle.graph.specs.Graph.{lent}
 use Rattle.renumber.specs.Seen.{RebuiltSeen, rebuilt_seen}
 use Rattle.records.specs.Table.{words_of, wiped}
 use Rattle.records.specs.Steps.{on_both}
@@ -22,9 +22,9 @@ returns c =
     let second = λ (l : List ℕ). lent a.rows2.now a.inputs2.now l a.constraints2.now a.bads2.now a.outputs2.now a.ends2.now a.edges2.now a.fairness2.now a.counts2 in
     let r = c.unroll_words-r in
     let seen = λ (l : List ℕ).
-      rebuilt_seen r.result
-      (lent r.new.rows r.new.inputs l r.new.constraints r.new.bads r.new.outputs r.new.ends r.new.edges r.new.fairness r.result.counts)
-      r.new.marks in
+    rebuilt_seen r.result
+    (lent r.new.rows r.new.inputs l r.new.constraints r.new.bads r.new.outputs r.new.ends r.new.edges r.new.fairness r.result.counts)
+    r.new.marks in
     let e₁ = c.to_words.ensures in
     let e₂ = c.to_words-2.ensures in
     let called = r.ensures ∙ (λ j. on_both (length t) (e₁ j) (length t2) (e₂ j) call refused) in

@@ -15,8 +15,8 @@ returns c =
     let r = c.unroll-r in
     through call refused a.latches.now a.words.now a.latches2.now a.words2.now
     (λ (l : List ℕ).
-      rebuilt_seen r.result
-      (lent r.new.rows r.new.inputs l r.new.constraints r.new.bads r.new.outputs r.new.ends r.new.edges r.new.fairness r.result.counts)
-      r.new.marks)
+    rebuilt_seen r.result
+    (lent r.new.rows r.new.inputs l r.new.constraints r.new.bads r.new.outputs r.new.ends r.new.edges r.new.fairness r.result.counts)
+    r.new.marks)
     c.requires.0 c.requires.1 c.records_back.new.table c.records_back-2.new.table r.new.latches c.records_back.ensures c.records_back-2.ensures
     (r.auto.latches ∙ c.records_back.auto.table) c.to_words.new.words r.new.words r.new.words2 r.ensures c.to_words.ensures

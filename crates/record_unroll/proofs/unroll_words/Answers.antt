@@ -9,7 +9,6 @@ use Rattle.renumber.specs.Seen.{rebuilt_seen}
 use Rattle.record_unroll.specs.Call.{unroll_with, unroll_refused}
 use Rattle.records.proofs.Working.{front_length}
 use Rattle.records.proofs.Pairing.{too_few_first, too_few_second, done_both}
-use borrow.Author.Rules.{rules}
 use Rattle.record_unroll.proofs.unroll_words.Goals as goal
 
 pub returns-then-words-n : goal.returns-then-words-n

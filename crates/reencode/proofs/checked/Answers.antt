@@ -1,8 +1,7 @@
 -- `reencode::checked` meets its contract.
 use native.Mathlib.Omega.{arith}
-use Rattle.graph.specs.Graph.{Lent, lent}
+use Rattle.graph.specs.Graph.{lent}
 use Rattle.reencode.proofs.Call.{limits_passed, check_refused_lem, accepted, orphan_found, room_missed, room_found}
-use borrow.Author.Rules.{rules}
 use Rattle.reencode.proofs.checked.Goals as goal
 
 pub returns-then-not-within : goal.returns-then-not-within

@@ -1,9 +1,7 @@
 -- `reencode::rebuild` meets its contract.
 use native.Mathlib.Omega.{arith}
-use mathlib.Core.Path.{◌∙◌}
-use Rattle.graph.specs.Graph.{Lent, lent}
+use Rattle.graph.specs.Graph.{lent}
 use Rattle.reencode.proofs.Readying.{to_rows, to_inputs, to_lists, all_written, cleared_same}
-use borrow.Author.Rules.{rules}
 use Rattle.reencode.proofs.rebuild.Goals as goal
 
 pub write_rows-requires : goal.write_rows-requires

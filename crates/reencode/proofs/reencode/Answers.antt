@@ -1,8 +1,7 @@
 -- `reencode::reencode` meets its contract.
-use mathlib.Core.Path.{refl, ◌∙◌}
-use Rattle.graph.specs.Graph.{Lent, lent}
+use mathlib.Core.Path.{refl}
+use Rattle.graph.specs.Graph.{lent}
 use Rattle.reencode.proofs.Call.{call_refused, call_ready, call_done}
-use borrow.Author.Rules.{rules}
 use Rattle.reencode.proofs.reencode.Goals as goal
 
 pub rebuild-requires : goal.rebuild-requires

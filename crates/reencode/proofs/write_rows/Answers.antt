@@ -1,6 +1,5 @@
 -- `reencode::write_rows` meets its contract.
 use native.Mathlib.Omega.{arith}
-use mathlib.Core.Path.{◌∙◌}
 use Rattle.reencode.proofs.Readying.{inputs_marked, latches_marked, gates_ready, rows_written}
 use Rattle.reencode.proofs.write_rows.Goals as goal
 

@@ -1,9 +1,8 @@
 -- `refine::checked` meets its contract.
-use mathlib.Core.Path.{refl, sym, ◌∙◌}
-use Rattle.graph.specs.Graph.{Lent, lent}
+use mathlib.Core.Path.{refl, sym}
+use Rattle.graph.specs.Graph.{lent}
 use Rattle.refine.proofs.Stepping.{flags_ready, inputs_there}
-use Rattle.refine.proofs.Call.{checked_refused, lending, numbers_cover, numbers_long, no_room_lem, all_found}
-use borrow.Author.Rules.{rules}
+use Rattle.refine.proofs.Call.{checked_refused, lending, numbers_cover, no_room_lem, all_found}
 use Rattle.refine.proofs.checked.Goals as goal
 
 pub returns-then-not-is_done : goal.returns-then-not-is_done
@@ -16,7 +15,7 @@ pub slice_bounds-number_kept-end : goal.slice_bounds-number_kept-end
 slice_bounds-number_kept-end c =
     let graph = lent c.args.rows.now c.args.inputs.now c.args.latches.now c.args.constraints.now c.args.bads.now c.args.outputs.now c.args.ends.now c.args.edges.now c.args.fairness.now
     c.args.counts in
-    (lending graph c.args.room c.args.old c.args.marks.now c.asked-answer.result c.asked-answer.ensures c.is_done.ensures c.if-not-is_done.false-raw ).long
+    (lending graph c.args.room c.args.old c.args.marks.now c.asked-answer.result c.asked-answer.ensures c.is_done.ensures c.if-not-is_done.false-raw).long
 
 pub slice_bounds-number_kept-end-2 : goal.slice_bounds-number_kept-end-2
 slice_bounds-number_kept-end-2 c =
@@ -28,9 +27,9 @@ pub number_kept-need-requires : goal.number_kept-need-requires
 number_kept-need-requires c =
     let graph = lent c.args.rows.now c.args.inputs.now c.args.latches.now c.args.constraints.now c.args.bads.now c.args.outputs.now c.args.ends.now c.args.edges.now c.args.fairness.now
     c.args.counts in
-    record
-    {flags_ready = flags_ready graph _ (lending graph c.args.room c.args.old c.args.marks.now c.asked-answer.result c.asked-answer.ensures c.is_done.ensures c.if-not-is_done.false-raw).ready;
-    ids_there = inputs_there graph _ (lending graph c.args.room c.args.old c.args.marks.now c.asked-answer.result c.asked-answer.ensures c.is_done.ensures c.if-not-is_done.false-raw).ready;
+    record {
+      flags_ready = flags_ready graph _ (lending graph c.args.room c.args.old c.args.marks.now c.asked-answer.result c.asked-answer.ensures c.is_done.ensures c.if-not-is_done.false-raw).ready;
+      ids_there = inputs_there graph _ (lending graph c.args.room c.args.old c.args.marks.now c.asked-answer.result c.asked-answer.ensures c.is_done.ensures c.if-not-is_done.false-raw).ready;
     }
 
 pub clear-requires : goal.clear-requires

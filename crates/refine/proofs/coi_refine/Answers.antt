@@ -1,9 +1,7 @@
 -- `refine::coi_refine` meets its contract.
 use native.Mathlib.Omega.{arith}
-use mathlib.Core.Path.{◌∙◌}
-use Rattle.graph.specs.Graph.{Lent, lent}
+use Rattle.graph.specs.Graph.{lent}
 use Rattle.refine.proofs.Call.{counts_stay, refine_refused, counts_found, ready_to_write, marks_cover, refine_done}
-use borrow.Author.Rules.{rules}
 use Rattle.refine.proofs.coi_refine.Goals as goal
 
 pub returns-then-not-is_done : goal.returns-then-not-is_done
@@ -29,7 +27,7 @@ clear-requires c =
     c.args.counts in
     let out = lent c.args.rows2.now c.args.inputs2.now c.args.latches2.now c.args.constraints2.now c.args.bads2.now c.args.outputs2.now c.args.ends2.now c.args.edges2.now
     c.args.fairness2.now c.args.counts in
-    omega ( arith, marks_cover graph out c.args.old.now c.args.marks.now c.checked-found.result c.checked-found.ensures c.is_done.ensures c.if-not-is_done.false-raw, )
+    omega (arith, marks_cover graph out c.args.old.now c.args.marks.now c.checked-found.result c.checked-found.ensures c.is_done.ensures c.if-not-is_done.false-raw)
 
 pub returns : goal.returns
 returns c =

@@ -1,7 +1,6 @@
 -- `sulandiro_build::sulandiro_new_ands_node` meets its contract.
 use Rattle.sulandiro_build.specs.Made.{made}
 use Rattle.sulandiro_words.proofs.Telling.{tells_handed}
-use borrow.Author.Rules.{rules}
 use Rattle.sulandiro_build.proofs.sulandiro_new_ands_node.Goals as goal
 
 pub returns : goal.returns

@@ -1,8 +1,6 @@
 -- `sulandiro_build::tell_made` meets its contract.
 use Rattle.sulandiro_build.specs.Made.{made_words}
 use Rattle.sulandiro_words.specs.Words.{count_words}
-use mathlib.Core.Path.{◌∙◌}
-use borrow.Author.Rules.{rules}
 use Rattle.sulandiro_build.proofs.tell_made.Goals as goal
 
 pub returns : goal.returns

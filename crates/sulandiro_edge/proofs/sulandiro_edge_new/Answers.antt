@@ -1,7 +1,6 @@
 -- `sulandiro_edge::sulandiro_edge_new` meets its contract.
 use Rattle.sulandiro_edge.specs.Told.{told_edge}
 use Rattle.sulandiro_edge.proofs.Telling.{tells}
-use borrow.Author.Rules.{rules}
 use Rattle.sulandiro_edge.proofs.sulandiro_edge_new.Goals as goal
 
 pub returns : goal.returns

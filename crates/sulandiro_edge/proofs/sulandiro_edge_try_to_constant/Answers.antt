@@ -1,5 +1,4 @@
 -- `sulandiro_edge::sulandiro_edge_try_to_constant` meets its contract.
-use borrow.Author.Rules.{rules}
 use Rattle.sulandiro_edge.proofs.sulandiro_edge_try_to_constant.Goals as goal
 
 pub returns-in-False : goal.returns-in-False

@@ -1,7 +1,6 @@
 -- `sulandiro_edge::sulandiro_is_and` meets its contract.
 use Rattle.sulandiro_edge.specs.Told.{told_truth}
 use Rattle.sulandiro_edge.proofs.Telling.{tells}
-use borrow.Author.Rules.{rules}
 use Rattle.sulandiro_edge.proofs.sulandiro_is_and.Goals as goal
 
 pub returns : goal.returns

@@ -1,6 +1,5 @@
 -- `sulandiro_edge::tell_edge` meets its contract.
 use Rattle.sulandiro_edge.specs.Told.{told_edge}
-use borrow.Author.Rules.{rules}
 use Rattle.sulandiro_edge.proofs.tell_edge.Goals as goal
 
 pub returns : goal.returns

@@ -1,7 +1,5 @@
 -- `sulandiro_edge::tell_fanins` meets its contract.
 use Rattle.sulandiro_edge.specs.Told.{told_fanins}
-use mathlib.Core.Path.{◌∙◌}
-use borrow.Author.Rules.{rules}
 use Rattle.sulandiro_edge.proofs.tell_fanins.Goals as goal
 
 pub returns : goal.returns

@@ -1,6 +1,5 @@
 -- `sulandiro_edge::tell_truth` meets its contract.
 use Rattle.sulandiro_edge.specs.Told.{told_truth}
-use borrow.Author.Rules.{rules}
 use Rattle.sulandiro_edge.proofs.tell_truth.Goals as goal
 
 pub returns : goal.returns

@@ -3,7 +3,6 @@ use Rattle.graph.specs.Graph.{lent}
 use Rattle.aig_move.specs.Call.{move_call}
 use Rattle.sulandiro_words.specs.Words.{counts_in}
 use Rattle.sulandiro_words.proofs.Telling.{tells}
-use borrow.Author.Rules.{rules}
 use Rattle.sulandiro_property.proofs.sulandiro_aig_move.Goals as goal
 
 pub returns : goal.returns

@@ -3,7 +3,6 @@ use Rattle.graph.specs.Graph.{lent}
 use Rattle.property.specs.Compress.{compress_call}
 use Rattle.sulandiro_words.specs.Words.{counts_in}
 use Rattle.sulandiro_words.proofs.Telling.{tells_listed}
-use borrow.Author.Rules.{rules}
 use Rattle.sulandiro_property.proofs.sulandiro_compress_property.Goals as goal
 
 pub returns : goal.returns

@@ -3,7 +3,6 @@ use Rattle.graph.specs.Graph.{lent}
 use Rattle.property.specs.GateInit.{gate_init_call}
 use Rattle.sulandiro_words.specs.Words.{counts_in}
 use Rattle.sulandiro_words.proofs.Telling.{tells}
-use borrow.Author.Rules.{rules}
 use Rattle.sulandiro_property.proofs.sulandiro_gate_init_to_constraint.Goals as goal
 
 pub returns : goal.returns

@@ -1,7 +1,6 @@
 -- `sulandiro_read::sulandiro_simulate` meets its contract.
 use Rattle.sulandiro_read.specs.Read.{step_read}
 use Rattle.sulandiro_words.proofs.Telling.{tells_handed}
-use borrow.Author.Rules.{rules}
 use Rattle.sulandiro_read.proofs.sulandiro_simulate.Goals as goal
 
 pub returns : goal.returns

@@ -3,7 +3,6 @@ use Rattle.graph.specs.Graph.{lent}
 use Rattle.sulandiro_words.specs.Words.{counts_in}
 use Rattle.refine.specs.Call.{refine_call}
 use Rattle.sulandiro_words.proofs.Telling.{tells_listed}
-use borrow.Author.Rules.{rules}
 use Rattle.sulandiro_rebuild.proofs.sulandiro_coi_refine.Goals as goal
 
 pub returns : goal.returns

@@ -3,7 +3,6 @@ use Rattle.graph.specs.Graph.{lent}
 use Rattle.sulandiro_words.specs.Words.{counts_in}
 use Rattle.reencode.specs.Call.{reencode_call}
 use Rattle.sulandiro_words.proofs.Telling.{tells}
-use borrow.Author.Rules.{rules}
 use Rattle.sulandiro_rebuild.proofs.sulandiro_reencode.Goals as goal
 
 pub returns : goal.returns

@@ -3,7 +3,6 @@ use Rattle.graph.specs.Graph.{lent}
 use Rattle.sulandiro_words.specs.Words.{counts_in}
 use Rattle.unroll.specs.Unroll.{unroll_call}
 use Rattle.sulandiro_words.proofs.Telling.{tells}
-use borrow.Author.Rules.{rules}
 use Rattle.sulandiro_unroll.proofs.sulandiro_unroll.Goals as goal
 
 pub returns : goal.returns

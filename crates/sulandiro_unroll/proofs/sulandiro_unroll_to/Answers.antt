@@ -3,7 +3,6 @@ use Rattle.graph.specs.Graph.{lent}
 use Rattle.sulandiro_words.specs.Words.{counts_in}
 use Rattle.unroll_to.specs.Call.{unroll_to_call}
 use Rattle.sulandiro_unroll.proofs.Telling.{tells_frames}
-use borrow.Author.Rules.{rules}
 use Rattle.sulandiro_unroll.proofs.sulandiro_unroll_to.Goals as goal
 
 pub returns : goal.returns

@@ -1,8 +1,6 @@
 -- `sulandiro_unroll::tell_frames` meets its contract.
 use Rattle.sulandiro_words.specs.Told.{told_rebuilt}
 use Rattle.sulandiro_unroll.specs.Frames.{told_ran}
-use mathlib.Core.Path.{◌∙◌}
-use borrow.Author.Rules.{rules}
 use Rattle.sulandiro_unroll.proofs.tell_frames.Goals as goal
 
 pub returns : goal.returns

@@ -1,6 +1,5 @@
 -- `sulandiro_words::at` meets its contract.
 use Rattle.sulandiro_words.proofs.Words.{get_beyond}
-use borrow.Author.Rules.{rules}
 use Rattle.sulandiro_words.proofs.at.Goals as goal
 
 pub returns-else-i-words : goal.returns-else-i-words

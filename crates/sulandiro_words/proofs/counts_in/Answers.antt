@@ -1,6 +1,5 @@
 -- `sulandiro_words::counts_in` meets its contract.
 use Rattle.sulandiro_words.specs.Words.{counts_in}
-use borrow.Author.Rules.{rules}
 use Rattle.sulandiro_words.proofs.counts_in.Goals as goal
 
 pub returns : goal.returns

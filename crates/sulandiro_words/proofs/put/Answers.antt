@@ -1,6 +1,5 @@
 -- `sulandiro_words::put` meets its contract.
 use Rattle.sulandiro_words.proofs.Words.{set_beyond}
-use borrow.Author.Rules.{rules}
 use Rattle.sulandiro_words.proofs.put.Goals as goal
 
 pub returns-then-words-i : goal.returns-then-words-i

@@ -1,7 +1,5 @@
 -- `sulandiro_words::tell` meets its contract.
 use Rattle.sulandiro_words.specs.Words.{given_words}
-use mathlib.Core.Path.{◌∙◌}
-use borrow.Author.Rules.{rules}
 use Rattle.sulandiro_words.proofs.tell.Goals as goal
 
 pub returns : goal.returns

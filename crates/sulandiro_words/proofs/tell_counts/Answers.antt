@@ -1,7 +1,5 @@
 -- `sulandiro_words::tell_counts` meets its contract.
 use Rattle.sulandiro_words.specs.Words.{count_words}
-use mathlib.Core.Path.{◌∙◌}
-use borrow.Author.Rules.{rules}
 use Rattle.sulandiro_words.proofs.tell_counts.Goals as goal
 
 pub returns : goal.returns

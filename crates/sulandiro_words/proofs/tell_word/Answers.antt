@@ -1,6 +1,4 @@
 -- `sulandiro_words::tell_word` meets its contract.
-use mathlib.Core.Path.{◌∙◌}
-use borrow.Author.Rules.{rules}
 use Rattle.sulandiro_words.proofs.tell_word.Goals as goal
 
 pub returns : goal.returns

@@ -1,7 +1,6 @@
 -- `unroll::checked` meets its contract.
-use Rattle.graph.specs.Graph.{Lent, lent}
+use Rattle.graph.specs.Graph.{lent}
 use Rattle.unroll.proofs.Call.{two_long, check_stops, both_sized, check_same, check_differs}
-use borrow.Author.Rules.{rules}
 use Rattle.unroll.proofs.checked.Goals as goal
 
 pub returns-then-not-is_done : goal.returns-then-not-is_done

@@ -1,10 +1,7 @@
 -- `unroll::same_latches` meets its contract.
-use Prim.Native.Nat.{◌-◌, ◌≤◌}
 use native.Mathlib.Nat.{sub-zero}
-use mathlib.Core.Path.{◌≡◌, refl, ap}
-use mathlib.Core.Bool.{◌&&◌}
+use mathlib.Core.Path.{refl, ap}
 use Rattle.graph.specs.declared.latch.Latch.{Latch}
-use Rattle.graph.specs.Search.{first_bad, nothing_found}
 use Rattle.unroll.specs.Unroll.{same_latch}
 use Rattle.unroll.proofs.Starting.{look_ended, look_further}
 use borrow.Author.Rules.{rules}

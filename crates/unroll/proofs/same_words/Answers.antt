@@ -1,9 +1,6 @@
 -- `unroll::same_words` meets its contract.
-use Prim.Native.Nat.{◌-◌, ◌≤◌}
 use native.Mathlib.Nat.{sub-zero}
-use mathlib.Core.Path.{◌≡◌, refl}
-use mathlib.Core.Bool.{◌&&◌}
-use Rattle.graph.specs.Search.{first_bad, nothing_found}
+use mathlib.Core.Path.{refl}
 use Rattle.unroll.specs.Unroll.{same_word}
 use Rattle.unroll.proofs.Starting.{look_ended, look_further}
 use borrow.Author.Rules.{rules}

@@ -1,11 +1,8 @@
 use Prim.Native.Nat.{◌-◌, ◌≤◌}
-use native.Mathlib.Nat.{sub-zero}
-use mathlib.Core.Path.{◌≡◌, refl}
+use mathlib.Core.Path.{◌≡◌}
 use mathlib.Core.Bool.{◌&&◌}
 use Rattle.graph.specs.Search.{first_bad, nothing_found}
 use Rattle.unroll.specs.Unroll.{same_word}
-use Rattle.unroll.proofs.Starting.{look_ended, look_further}
-use borrow.Author.Rules.{rules}
 use Rattle.unroll.proofs.same_words.Given as goal
 
 abbrev pub invariant-loop-k : goal.invariant-loop-k

@@ -1,9 +1,7 @@
 -- `unroll::unroll` meets its contract.
-use native.Mathlib.Omega.{arith}
-use mathlib.Core.Path.{refl, sym}
-use Rattle.graph.specs.Graph.{Lent, lent}
+use mathlib.Core.Path.{sym}
+use Rattle.graph.specs.Graph.{lent}
 use Rattle.unroll.proofs.Call.{unroll_refused_lem, ready, unroll_done}
-use borrow.Author.Rules.{rules}
 use Rattle.unroll.proofs.unroll.Goals as goal
 
 pub returns-then-not-is_done : goal.returns-then-not-is_done

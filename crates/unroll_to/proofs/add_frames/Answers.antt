@@ -1,10 +1,9 @@
 -- `unroll_to::add_frames` meets its contract.
-use Prim.Native.Nat.{◌-◌}
 use native.Mathlib.Omega.{arith}
-use mathlib.Core.Path.{ap, ◌∙◌}
+use mathlib.Core.Path.{ap}
 use lib.ListN.{length}
 use Rattle.graph.specs.Graph.{lent}
-use Rattle.unroll_to.proofs.Going.{Going, starts, may_add, ends, marks_same, stops, goes}
+use Rattle.unroll_to.proofs.Going.{starts, may_add, ends, marks_same, stops, goes}
 use Rattle.unroll_to.proofs.add_frames.Goals as goal
 
 pub loop-j-init : goal.loop-j-init

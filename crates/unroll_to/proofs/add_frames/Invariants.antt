@@ -1,9 +1,6 @@
 use Prim.Native.Nat.{◌-◌}
-use native.Mathlib.Omega.{arith}
-use mathlib.Core.Path.{ap, ◌∙◌}
-use lib.ListN.{length}
 use Rattle.graph.specs.Graph.{lent}
-use Rattle.unroll_to.proofs.Going.{Going, starts, may_add, ends, marks_same, stops, goes}
+use Rattle.unroll_to.proofs.Going.{Going}
 use Rattle.unroll_to.proofs.add_frames.Given as goal
 
 abbrev pub invariant-loop-j : goal.invariant-loop-j

@@ -1,7 +1,6 @@
 -- `unroll_to::checked` meets its contract.
-use Rattle.graph.specs.Graph.{Lent, lent}
+use Rattle.graph.specs.Graph.{lent}
 use Rattle.unroll_to.proofs.Call.{checked_refused, no_room_lem, all_found}
-use borrow.Author.Rules.{rules}
 use Rattle.unroll_to.proofs.checked.Goals as goal
 
 pub returns-then-not-is_done : goal.returns-then-not-is_done

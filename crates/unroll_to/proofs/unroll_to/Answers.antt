@@ -1,8 +1,7 @@
 -- `unroll_to::unroll_to` meets its contract.
-use mathlib.Core.Path.{refl, ◌∙◌}
-use Rattle.graph.specs.Graph.{Lent, lent}
+use mathlib.Core.Path.{refl}
+use Rattle.graph.specs.Graph.{lent}
 use Rattle.unroll_to.proofs.Call.{unroll_refused_lem, ready_to_write, unroll_done}
-use borrow.Author.Rules.{rules}
 use Rattle.unroll_to.proofs.unroll_to.Goals as goal
 
 pub returns-then-not-is_done : goal.returns-then-not-is_done

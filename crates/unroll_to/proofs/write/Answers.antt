@@ -1,6 +1,5 @@
 -- `unroll_to::write` meets its contract.
-use mathlib.Core.Path.{◌∙◌}
-use Rattle.graph.specs.Graph.{Lent, lent}
+use Rattle.graph.specs.Graph.{lent}
 use Rattle.unroll_to.specs.Steps.{UnrollReady}
 use Rattle.unroll_to.proofs.Starting.{copy_fits, frames_ready, all_unrolled}
 use Rattle.unroll_to.proofs.write.Goals as goal
@@ -34,6 +33,7 @@ returns c =
     c.args.counts in
     let out = lent c.args.rows2.now c.args.inputs2.now c.args.latches2.now c.args.constraints2.now c.args.bads2.now c.args.outputs2.now c.args.ends2.now c.args.edges2.now
     c.args.fairness2.now c.args.counts in
-    record
-    {counts_after = all_unrolled graph out c.args.marks.now (ok (goal.at.returns c).Start) c.copy_graph.ensures c.args.frames c.add_frames.ensures.counts_after;
-    marks_unchanged = c.add_frames.ensures.marks_unchanged }
+    record {
+      counts_after = all_unrolled graph out c.args.marks.now (ok (goal.at.returns c).Start) c.copy_graph.ensures c.args.frames c.add_frames.ensures.counts_after;
+      marks_unchanged = c.add_frames.ensures.marks_unchanged;
+    }

@@ -1,7 +1,6 @@
 -- `aig_move::making::add_guard` meets its contract.
 use mathlib.Core.Path.{◌∙◌}
 use Rattle.aig_move.proofs.Steps.{guard_none, guard_first}
-use borrow.Author.Rules.{rules}
 use Rattle.aig_move.proofs.making.add_guard.Goals as goal
 
 pub returns-then-list-eq0 : goal.returns-then-list-eq0

@@ -2,7 +2,6 @@
 use native.Mathlib.Omega.{arith}
 use mathlib.Core.Path.{◌∙◌}
 use Rattle.aig_move.proofs.Steps.{list_most, next_built}
-use borrow.Author.Rules.{rules}
 use Rattle.aig_move.proofs.making.add_next.Goals as goal
 
 pub add_and-requires : goal.add_and-requires

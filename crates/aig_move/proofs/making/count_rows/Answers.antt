@@ -4,7 +4,6 @@ use mathlib.Core.List.{[]}
 use lib.ListN.{take}
 use Rattle.aig_move.specs.Making.{Making}
 use Rattle.aig_move.proofs.Steps.{used_like}
-use borrow.Author.Rules.{rules}
 use Rattle.aig_move.proofs.making.count_rows.Goals as goal
 
 pub returns : goal.returns

@@ -2,7 +2,6 @@
 use native.Mathlib.Omega.{arith}
 use mathlib.Core.Path.{sym}
 use lib.Seq.{length-take-le}
-use borrow.Author.Rules.{rules}
 use Rattle.aig_move.proofs.making.make.Goals as goal
 
 pub slice_bounds-make_rows-end : goal.slice_bounds-make_rows-end

@@ -1,8 +1,6 @@
 -- `aig_move::making::make_rows` meets its contract.
 use native.Mathlib.Omega.{arith}
-use mathlib.Core.Path.{◌∙◌}
 use Rattle.aig_move.proofs.Steps.{next_most, bad_most, all_made}
-use borrow.Author.Rules.{rules}
 use Rattle.aig_move.proofs.making.make_rows.Goals as goal
 
 pub add_guard-bad-requires : goal.add_guard-bad-requires

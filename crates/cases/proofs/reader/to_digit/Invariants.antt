@@ -4,7 +4,7 @@ use borrow.Author.Rules.{rules}
 use Rattle.cases.proofs.reader.to_digit.Given as goal
 
 abbrev pub invariant-loop-turns : goal.invariant-loop-turns
-invariant-loop-turns l = length l.buf ≡ length l.initial.buf
+invariant-loop-turns g l = length l.buf ≡ length l.initial.buf
 
 abbrev pub decreases-loop-turns : goal.decreases-loop-turns
-decreases-loop-turns l = l.turns
+decreases-loop-turns g l = l.turns

@@ -5,7 +5,7 @@ use borrow.Author.Rules.{rules}
 use Rattle.cases.proofs.report.line.Given as goal
 
 abbrev pub invariant-loop-i : goal.invariant-loop-i
-invariant-loop-i l = length l.out ≡ length l.initial.out
+invariant-loop-i g l = length l.out ≡ length l.initial.out
 
 abbrev pub decreases-loop-i : goal.decreases-loop-i
-decreases-loop-i l = length l.words - l.i
+decreases-loop-i g l = length l.words - l.i

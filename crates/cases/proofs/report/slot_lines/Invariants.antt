@@ -5,7 +5,7 @@ use borrow.Author.Rules.{rules}
 use Rattle.cases.proofs.report.slot_lines.Given as goal
 
 abbrev pub invariant-loop-at : goal.invariant-loop-at
-invariant-loop-at l = length l.out ≡ length l.initial.out
+invariant-loop-at g l = length l.out ≡ length l.initial.out
 
 abbrev pub decreases-loop-at : goal.decreases-loop-at
-decreases-loop-at l = length l.arena - l.at
+decreases-loop-at g l = length l.arena - l.at

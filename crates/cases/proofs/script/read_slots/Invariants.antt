@@ -4,7 +4,7 @@ use borrow.Author.Rules.{rules}
 use Rattle.cases.proofs.script.read_slots.Given as goal
 
 abbrev pub invariant-loop-left : goal.invariant-loop-left
-invariant-loop-left l = (length l.input ≡ length l.initial.input) × (length l.arena ≡ length l.initial.arena)
+invariant-loop-left g l = (length l.input ≡ length l.initial.input) × (length l.arena ≡ length l.initial.arena)
 
 abbrev pub decreases-loop-left : goal.decreases-loop-left
-decreases-loop-left l = l.left
+decreases-loop-left g l = l.left

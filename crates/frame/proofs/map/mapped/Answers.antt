@@ -1,6 +1,5 @@
 -- `frame::map::mapped` meets its contract.
 use Rattle.frame.specs.Map.{mapped}
-use borrow.Author.Rules.{rules}
 use Rattle.frame.proofs.map.mapped.Goals as goal
 
 pub returns : goal.returns

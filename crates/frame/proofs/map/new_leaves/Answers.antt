@@ -1,7 +1,4 @@
 -- `frame::map::new_leaves` meets its contract.
-use Prim.Native.Nat.{◌+◌, ◌-◌, ◌≤◌}
-use mathlib.Core.Path.{◌≡◌}
-use mathlib.Core.Logic.{⊎_elim}
 use lib.ListN.{length}
 use Rattle.frame.specs.Steps.{new_leaves}
 use Rattle.frame.proofs.Bounding.{leaves_start, leaves_ended, leaves_one, leaves_no, one_more, no_more}

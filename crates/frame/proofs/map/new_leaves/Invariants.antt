@@ -1,10 +1,6 @@
 use Prim.Native.Nat.{◌+◌, ◌-◌, ◌≤◌}
 use mathlib.Core.Path.{◌≡◌}
-use mathlib.Core.Logic.{⊎_elim}
-use lib.ListN.{length}
 use Rattle.frame.specs.Steps.{new_leaves}
-use Rattle.frame.proofs.Bounding.{leaves_start, leaves_ended, leaves_one, leaves_no, one_more, no_more}
-use borrow.Author.Rules.{rules}
 use Rattle.frame.proofs.map.new_leaves.Given as goal
 
 abbrev pub invariant-loop-i : goal.invariant-loop-i

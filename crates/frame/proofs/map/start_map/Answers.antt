@@ -1,9 +1,8 @@
 -- `frame::map::start_map` meets its contract.
 use lib.ListN.{length-set, length}
-use Prim.Native.Nat.{◌-◌, ◌≤◌}
 use native.Mathlib.Omega.{arith}
 use native.Mathlib.Nat.{le_antisymm}
-use mathlib.Core.Path.{◌≡◌, refl, ap}
+use mathlib.Core.Path.{refl, ap}
 use Rattle.frame.specs.Map.{nexts_mapped}
 use Rattle.frame.proofs.Mapping.{nexts_mapped_turn, started}
 use borrow.Author.Rules.{rules}

@@ -1,11 +1,7 @@
-use lib.ListN.{length-set, length}
+use lib.ListN.{length}
 use Prim.Native.Nat.{◌-◌, ◌≤◌}
-use native.Mathlib.Omega.{arith}
-use native.Mathlib.Nat.{le_antisymm}
-use mathlib.Core.Path.{◌≡◌, refl, ap}
+use mathlib.Core.Path.{◌≡◌}
 use Rattle.frame.specs.Map.{nexts_mapped}
-use Rattle.frame.proofs.Mapping.{nexts_mapped_turn, started}
-use borrow.Author.Rules.{rules}
 use Rattle.frame.proofs.map.start_map.Given as goal
 
 abbrev pub invariant-loop-j : goal.invariant-loop-j

@@ -1,10 +1,9 @@
 -- `frame::map::unmapped` meets its contract.
-use Prim.Native.Nat.{◌-◌, ◌≤◌}
 use native.Mathlib.Omega.{arith}
 use native.Mathlib.Nat.{le_antisymm}
-use mathlib.Core.Path.{◌≡◌, ap, ◌∙◌}
-use mathlib.Core.List.{List, ◌++◌}
-use lib.ListN.{length, set, drop, replicate}
+use mathlib.Core.Path.{ap, ◌∙◌}
+use mathlib.Core.List.{List}
+use lib.ListN.{set}
 use borrow.Author.Fill.{fill_more}
 use Rattle.rows.specs.Rows.{none}
 use Rattle.frame.proofs.Mapping.{filled}

@@ -1,13 +1,8 @@
 use Prim.Native.Nat.{◌-◌, ◌≤◌}
-use native.Mathlib.Omega.{arith}
-use native.Mathlib.Nat.{le_antisymm}
-use mathlib.Core.Path.{◌≡◌, ap, ◌∙◌}
-use mathlib.Core.List.{List, ◌++◌}
-use lib.ListN.{length, set, drop, replicate}
-use borrow.Author.Fill.{fill_more}
+use mathlib.Core.Path.{◌≡◌}
+use mathlib.Core.List.{◌++◌}
+use lib.ListN.{length, drop, replicate}
 use Rattle.rows.specs.Rows.{none}
-use Rattle.frame.proofs.Mapping.{filled}
-use borrow.Author.Rules.{rules}
 use Rattle.frame.proofs.map.unmapped.Given as goal
 
 abbrev pub invariant-loop-i : goal.invariant-loop-i

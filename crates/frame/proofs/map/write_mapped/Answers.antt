@@ -1,9 +1,7 @@
 -- `frame::map::write_mapped` meets its contract.
-use Prim.Native.Nat.{◌-◌, ◌≤◌}
 use native.Mathlib.Omega.{arith}
 use native.Mathlib.Nat.{le_antisymm}
-use mathlib.Core.Path.{◌≡◌, refl}
-use lib.ListN.{length}
+use mathlib.Core.Path.{refl}
 use Rattle.output.specs.Writing.{written}
 use Rattle.output.proofs.Writing.{written_turn}
 use Rattle.frame.specs.Map.{mapped_of}

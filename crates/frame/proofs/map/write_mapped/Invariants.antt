@@ -1,12 +1,8 @@
 use Prim.Native.Nat.{◌-◌, ◌≤◌}
-use native.Mathlib.Omega.{arith}
-use native.Mathlib.Nat.{le_antisymm}
-use mathlib.Core.Path.{◌≡◌, refl}
+use mathlib.Core.Path.{◌≡◌}
 use lib.ListN.{length}
 use Rattle.output.specs.Writing.{written}
-use Rattle.output.proofs.Writing.{written_turn}
 use Rattle.frame.specs.Map.{mapped_of}
-use borrow.Author.Rules.{rules}
 use Rattle.frame.proofs.map.write_mapped.Given as goal
 
 abbrev pub invariant-loop-j : goal.invariant-loop-j

@@ -1,9 +1,7 @@
 -- `frame::map::write_nexts` meets its contract.
-use Prim.Native.Nat.{◌-◌, ◌≤◌}
 use native.Mathlib.Omega.{arith}
 use native.Mathlib.Nat.{le_antisymm}
-use mathlib.Core.Path.{◌≡◌, refl, ap, ◌∙◌}
-use lib.ListN.{length}
+use mathlib.Core.Path.{refl, ap, ◌∙◌}
 use Rattle.graph.specs.Latches.{latch_set}
 use Rattle.frame.specs.Map.{nexts_set}
 use Rattle.frame.proofs.Mapping.{nexts_set_turn}

@@ -1,12 +1,7 @@
 use Prim.Native.Nat.{◌-◌, ◌≤◌}
-use native.Mathlib.Omega.{arith}
-use native.Mathlib.Nat.{le_antisymm}
-use mathlib.Core.Path.{◌≡◌, refl, ap, ◌∙◌}
+use mathlib.Core.Path.{◌≡◌}
 use lib.ListN.{length}
-use Rattle.graph.specs.Latches.{latch_set}
 use Rattle.frame.specs.Map.{nexts_set}
-use Rattle.frame.proofs.Mapping.{nexts_set_turn}
-use borrow.Author.Rules.{rules}
 use Rattle.frame.proofs.map.write_nexts.Given as goal
 
 abbrev pub invariant-loop-j : goal.invariant-loop-j

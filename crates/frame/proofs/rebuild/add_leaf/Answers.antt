@@ -1,7 +1,6 @@
 -- `frame::rebuild::add_leaf` meets its contract.
 use mathlib.Core.Path.{sym}
 use lib.Seq.{set_out}
-use borrow.Author.Rules.{rules}
 use Rattle.frame.proofs.rebuild.add_leaf.Goals as goal
 
 pub returns-else-n-inputs : goal.returns-else-n-inputs

@@ -1,5 +1,4 @@
 -- `frame::rebuild::frame_of` meets its contract.
-use mathlib.Core.Path.{◌∙◌}
 use Rattle.frame.proofs.Framing.{framed_from}
 use borrow.Author.Rules.{rules}
 use Rattle.frame.proofs.rebuild.frame_of.Goals as goal

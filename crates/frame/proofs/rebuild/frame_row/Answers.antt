@@ -3,7 +3,6 @@ use native.Mathlib.Omega.{arith}
 use Rattle.rows.proofs.Laws.{gate_below}
 use Rattle.frame.specs.Frame.{frame}
 use Rattle.frame.proofs.Framing.{first_gate_lem, else_no_gate, row_gate, row_leaf, row_stays}
-use borrow.Author.Rules.{rules}
 use Rattle.frame.proofs.rebuild.frame_row.Goals as goal
 
 pub mapped-requires : goal.mapped-requires

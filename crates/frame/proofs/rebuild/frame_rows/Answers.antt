@@ -1,10 +1,9 @@
 -- `frame::rebuild::frame_rows` meets its contract.
-use Prim.Native.Nat.{◌+◌, ◌-◌, ◌≤◌}
 use native.Mathlib.Omega.{arith}
 use native.Mathlib.Nat.{sub-zero}
-use mathlib.Core.Path.{◌≡◌, refl, ◌∙◌}
+use mathlib.Core.Path.{refl, ◌∙◌}
 use lib.ListN.{length}
-use Rattle.frame.specs.Frame.{frame, frame_rows}
+use Rattle.frame.specs.Frame.{frame}
 use Rattle.frame.proofs.Framing.{rows_turn, rows_end, turned}
 use borrow.Author.Rules.{rules}
 use Rattle.frame.proofs.rebuild.frame_rows.Goals as goal

@@ -1,11 +1,7 @@
 use Prim.Native.Nat.{◌+◌, ◌-◌, ◌≤◌}
-use native.Mathlib.Omega.{arith}
-use native.Mathlib.Nat.{sub-zero}
-use mathlib.Core.Path.{◌≡◌, refl, ◌∙◌}
+use mathlib.Core.Path.{◌≡◌}
 use lib.ListN.{length}
 use Rattle.frame.specs.Frame.{frame, frame_rows}
-use Rattle.frame.proofs.Framing.{rows_turn, rows_end, turned}
-use borrow.Author.Rules.{rules}
 use Rattle.frame.proofs.rebuild.frame_rows.Given as goal
 
 abbrev pub invariant-loop-i : goal.invariant-loop-i

@@ -3,7 +3,6 @@ use native.Mathlib.Omega.{arith}
 use lib.ListN.{length-set}
 use Rattle.renumber.specs.Renumber.{by}
 use Rattle.kept_rows.proofs.Copying.{row_is, first_ready, second_ready}
-use borrow.Author.Rules.{rules}
 use Rattle.kept_rows.proofs.copies.copy_row.Goals as goal
 
 pub row_word-requires : goal.row_word-requires

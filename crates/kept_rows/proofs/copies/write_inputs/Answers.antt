@@ -1,11 +1,9 @@
 -- `kept_rows::copies::write_inputs` meets its contract.
-use Prim.Native.Nat.{◌-◌, ◌≤◌}
 use native.Mathlib.Omega.{arith}
 use mathlib.Core.Path.{sym, ◌∙◌}
-use mathlib.Core.Logic.{⊎_elim}
 use Rattle.renumber.specs.Renumber.{ids_of, by}
 use Rattle.kept_rows.specs.Keeping.{word_put, numbered, kept_input}
-use Rattle.kept_rows.proofs.Copying.{Keeping, keep_start, keep_taken, keep_left, keep_room, keep_end, word_put_length}
+use Rattle.kept_rows.proofs.Copying.{keep_start, keep_taken, keep_left, keep_room, keep_end, word_put_length}
 use Rattle.graph.proofs.Counting.{count_small}
 use borrow.Author.Rules.{rules}
 use Rattle.kept_rows.proofs.copies.write_inputs.Goals as goal

@@ -1,10 +1,6 @@
 -- `kept_rows::flags::mark_inputs` meets its contract.
-use Prim.Native.Nat.{◌-◌, ◌≤◌}
 use native.Mathlib.Omega.{arith}
-use mathlib.Core.Path.{◌≡◌, refl}
-use lib.ListN.{length}
-use Rattle.root_marks.specs.Marking.{mark_edges}
-use Rattle.kept_rows.specs.Kept.{input_edges}
+use mathlib.Core.Path.{refl}
 use Rattle.kept_rows.proofs.Flagging.{inputs_start, inputs_turn, inputs_end}
 use borrow.Author.Rules.{rules}
 use Rattle.kept_rows.proofs.flags.mark_inputs.Goals as goal

@@ -1,11 +1,8 @@
 use Prim.Native.Nat.{◌-◌, ◌≤◌}
-use native.Mathlib.Omega.{arith}
-use mathlib.Core.Path.{◌≡◌, refl}
+use mathlib.Core.Path.{◌≡◌}
 use lib.ListN.{length}
 use Rattle.root_marks.specs.Marking.{mark_edges}
 use Rattle.kept_rows.specs.Kept.{input_edges}
-use Rattle.kept_rows.proofs.Flagging.{inputs_start, inputs_turn, inputs_end}
-use borrow.Author.Rules.{rules}
 use Rattle.kept_rows.proofs.flags.mark_inputs.Given as goal
 
 abbrev pub invariant-loop-k : goal.invariant-loop-k

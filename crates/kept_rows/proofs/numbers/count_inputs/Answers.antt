@@ -1,9 +1,7 @@
 -- `kept_rows::numbers::count_inputs` meets its contract.
-use Prim.Native.Nat.{◌-◌, ◌≤◌}
 use native.Mathlib.Omega.{arith}
 use native.Mathlib.Nat.{le_antisymm}
-use mathlib.Core.Path.{◌≡◌, refl, sym, ◌∙◌}
-use mathlib.Core.Logic.{⊎_elim}
+use mathlib.Core.Path.{refl, sym, ◌∙◌}
 use Rattle.graph.specs.Count.{count_below}
 use Rattle.kept_rows.specs.Keeping.{numbered, kept_input}
 use Rattle.graph.proofs.Counting.{count_taken, count_left, count_small}

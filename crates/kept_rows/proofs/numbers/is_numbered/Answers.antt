@@ -1,7 +1,6 @@
 -- `kept_rows::numbers::is_numbered` meets its contract.
 use mathlib.Core.Path.{refl}
 use Rattle.kept_rows.specs.Keeping.{numbered}
-use borrow.Author.Rules.{rules}
 use Rattle.kept_rows.proofs.numbers.is_numbered.Goals as goal
 
 pub returns : goal.returns

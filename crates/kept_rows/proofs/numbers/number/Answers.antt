@@ -1,12 +1,9 @@
 -- `kept_rows::numbers::number` meets its contract.
 use Rattle.graph.proofs.Counting.{count_small}
-use Rattle.kept_rows.proofs.Numbering.{Numbering, number_start, number_taken, number_left}
-use Prim.Native.Nat.{◌-◌, ◌≤◌}
+use Rattle.kept_rows.proofs.Numbering.{number_start, number_taken, number_left}
 use native.Mathlib.Omega.{arith}
 use native.Mathlib.Nat.{le_antisymm}
-use mathlib.Core.Path.{◌≡◌, refl}
-use mathlib.Core.Logic.{⊎_elim}
-use lib.ListN.{length}
+use mathlib.Core.Path.{refl}
 use borrow.Author.Rules.{rules}
 use Rattle.kept_rows.proofs.numbers.number.Goals as goal
 use Rattle.kept_rows.proofs.numbers.number.Goals.{else-marks-i-eq1, then-marks-i-eq1}
@@ -42,6 +39,7 @@ shape_of-marks c = c.loop-i.invariant.2.long
 
 pub returns : goal.returns
 returns c =
-    record
-    {value = rw (le_antisymm c.loop-i.invariant.0 c.loop-i-test.false) at c.loop-i.invariant.2.count;
-    marks_after = rw (le_antisymm c.loop-i.invariant.0 c.loop-i-test.false) at c.loop-i.invariant.2.is }
+    record {
+      value = rw (le_antisymm c.loop-i.invariant.0 c.loop-i-test.false) at c.loop-i.invariant.2.count;
+      marks_after = rw (le_antisymm c.loop-i.invariant.0 c.loop-i-test.false) at c.loop-i.invariant.2.is;
+    }

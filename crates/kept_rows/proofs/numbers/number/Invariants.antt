@@ -1,12 +1,7 @@
-use Rattle.graph.proofs.Counting.{count_small}
-use Rattle.kept_rows.proofs.Numbering.{Numbering, number_start, number_taken, number_left}
+use Rattle.kept_rows.proofs.Numbering.{Numbering}
 use Prim.Native.Nat.{◌-◌, ◌≤◌}
-use native.Mathlib.Omega.{arith}
-use native.Mathlib.Nat.{le_antisymm}
-use mathlib.Core.Path.{◌≡◌, refl}
-use mathlib.Core.Logic.{⊎_elim}
+use mathlib.Core.Path.{◌≡◌}
 use lib.ListN.{length}
-use borrow.Author.Rules.{rules}
 use Rattle.kept_rows.proofs.numbers.number.Given as goal
 
 abbrev pub invariant-loop-i : goal.invariant-loop-i

@@ -1,6 +1,5 @@
 use Prim.Native.Nat.{◌-◌, ◌≤◌}
 use lib.ListN.{length}
-use borrow.Author.Rules.{rules}
 use Rattle.marked_run.proofs.parts.start.Given as goal
 
 abbrev pub invariant-loop : goal.invariant-loop

@@ -3,11 +3,10 @@ use lib.ListN.{length}
 use lib.Dec.{leb}
 use borrow.Author.Tests.{lt-leb, le-leb}
 use Rattle.rows.specs.Sizes.{max_entries}
-use Rattle.graph.specs.Graph.{Lent, lent}
+use Rattle.graph.specs.Graph.{lent}
 use Rattle.property.specs.Compress.{compress_room, compress_checked}
 use Rattle.property.proofs.Answering.{limit_passed, check_stops, check_right, check_room, check_full}
 use Rattle.property.proofs.Compressing.{or_room, or_ready}
-use borrow.Author.Rules.{rules}
 use Rattle.property.proofs.compress.checked.Goals as goal
 
 pub returns-then-old-gt-MAX_ENTRIES : goal.returns-then-old-gt-MAX_ENTRIES

@@ -1,8 +1,6 @@
 -- `property::compress::compress_property` meets its contract.
-use mathlib.Core.Path.{refl}
-use Rattle.graph.specs.Graph.{Lent, lent}
+use Rattle.graph.specs.Graph.{lent}
 use Rattle.property.proofs.Compressing.{compress_refused, compress_ready, compress_done}
-use borrow.Author.Rules.{rules}
 use Rattle.property.proofs.compress.compress_property.Goals as goal
 
 pub returns-then-not-is_done : goal.returns-then-not-is_done

@@ -3,7 +3,6 @@ use native.Mathlib.Omega.{arith}
 use mathlib.Core.Path.{◌≡◌, sym}
 use lib.ListN.{length, take}
 use lib.Seq.{length-take-le}
-use borrow.Author.Rules.{rules}
 use Rattle.property.proofs.compress.or_bads.Goals as goal
 
 pub slice_bounds-add_list-end : goal.slice_bounds-add_list-end

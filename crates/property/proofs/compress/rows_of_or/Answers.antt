@@ -1,7 +1,6 @@
 -- `property::compress::rows_of_or` meets its contract.
 use mathlib.Core.Path.{ap}
 use Rattle.gates.specs.Gates.{State}
-use borrow.Author.Rules.{rules}
 use Rattle.property.proofs.compress.rows_of_or.Goals as goal
 
 pub returns : goal.returns

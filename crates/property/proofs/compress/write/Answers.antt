@@ -1,6 +1,5 @@
 -- `property::compress::write` meets its contract.
 use mathlib.Core.Path.{refl}
-use borrow.Author.Rules.{rules}
 use Rattle.property.proofs.compress.write.Goals as goal
 
 pub returns : goal.returns

@@ -3,7 +3,6 @@ use native.Mathlib.Omega.{arith}
 use mathlib.Core.Path.{◌∙◌}
 use Rattle.gates.proofs.Listing.{and_most, eq_most, eq_built}
 use Rattle.property.proofs.Gating.{or_most, constraint_built}
-use borrow.Author.Rules.{rules}
 use Rattle.property.proofs.gate_init.add_constraint.Goals as goal
 
 pub add_and-neither-requires : goal.add_and-neither-requires

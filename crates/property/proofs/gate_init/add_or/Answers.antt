@@ -1,6 +1,5 @@
 -- `property::gate_init::add_or` meets its contract.
 use Rattle.property.proofs.Gating.{or_built}
-use borrow.Author.Rules.{rules}
 use Rattle.property.proofs.gate_init.add_or.Goals as goal
 
 pub returns : goal.returns

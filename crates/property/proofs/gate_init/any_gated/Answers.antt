@@ -1,10 +1,7 @@
 -- `property::gate_init::any_gated` meets its contract.
-use Prim.Native.Nat.{◌-◌, ◌≤◌}
 use native.Mathlib.Omega.{arith}
 use native.Mathlib.Nat.{le_antisymm}
-use mathlib.Core.Path.{◌≡◌, sym}
-use mathlib.Core.Bool.{false}
-use Rattle.property.specs.Steps.{any_gated}
+use mathlib.Core.Path.{sym}
 use Rattle.property.proofs.Gating.{any_start, any_turn, any_found}
 use borrow.Author.Rules.{rules}
 use Rattle.property.proofs.gate_init.any_gated.Goals as goal

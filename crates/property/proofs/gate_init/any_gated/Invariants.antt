@@ -1,11 +1,7 @@
 use Prim.Native.Nat.{◌-◌, ◌≤◌}
-use native.Mathlib.Omega.{arith}
-use native.Mathlib.Nat.{le_antisymm}
-use mathlib.Core.Path.{◌≡◌, sym}
+use mathlib.Core.Path.{◌≡◌}
 use mathlib.Core.Bool.{false}
 use Rattle.property.specs.Steps.{any_gated}
-use Rattle.property.proofs.Gating.{any_start, any_turn, any_found}
-use borrow.Author.Rules.{rules}
 use Rattle.property.proofs.gate_init.any_gated.Given as goal
 
 abbrev pub invariant-loop-j : goal.invariant-loop-j

@@ -1,11 +1,10 @@
 -- `property::gate_init::checked` meets its contract.
 use mathlib.Core.Path.{refl}
 use mathlib.Core.Bool.{true}
-use Rattle.graph.specs.Graph.{Lent, lent}
+use Rattle.graph.specs.Graph.{lent}
 use Rattle.property.specs.GateInit.{part_of, gate_room, gate_init_checked}
 use Rattle.property.proofs.Answering.{check_stops, check_right, check_room, check_full}
 use Rattle.property.proofs.Constraining.{gate_room_lem, steps_ready}
-use borrow.Author.Rules.{rules}
 use Rattle.property.proofs.gate_init.checked.Goals as goal
 
 pub returns-then-not-is_done : goal.returns-then-not-is_done

@@ -1,8 +1,6 @@
 -- `property::gate_init::gate_init_to_constraint` meets its contract.
-use mathlib.Core.Path.{refl}
-use Rattle.graph.specs.Graph.{Lent, lent}
+use Rattle.graph.specs.Graph.{lent}
 use Rattle.property.proofs.Constraining.{gate_init_refused, gate_init_ready, gate_init_done}
-use borrow.Author.Rules.{rules}
 use Rattle.property.proofs.gate_init.gate_init_to_constraint.Goals as goal
 
 pub returns-then-not-is_done : goal.returns-then-not-is_done

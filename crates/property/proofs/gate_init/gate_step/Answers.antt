@@ -1,7 +1,6 @@
 -- `property::gate_init::gate_step` meets its contract.
 use Rattle.property.specs.GateInit.{gating}
 use Rattle.property.proofs.Gating.{step_kept, step_made}
-use borrow.Author.Rules.{rules}
 use Rattle.property.proofs.gate_init.gate_step.Goals as goal
 
 pub returns-then-not-is_gated : goal.returns-then-not-is_gated

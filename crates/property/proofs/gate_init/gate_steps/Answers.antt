@@ -1,9 +1,7 @@
 -- `property::gate_init::gate_steps` meets its contract.
-use Prim.Native.Nat.{◌+◌, ◌-◌, ◌*◌, ◌≤◌}
 use native.Mathlib.Omega.{arith}
 use native.Mathlib.Nat.{le_antisymm}
-use mathlib.Core.Path.{◌≡◌, refl, ◌∙◌}
-use lib.ListN.{length}
+use mathlib.Core.Path.{refl, ◌∙◌}
 use Rattle.property.specs.GateInit.{gating, gate_steps}
 use Rattle.property.proofs.Gating.{steps_turn, turn_bounded}
 use borrow.Author.Rules.{rules}

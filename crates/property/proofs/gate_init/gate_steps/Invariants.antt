@@ -1,11 +1,7 @@
 use Prim.Native.Nat.{◌+◌, ◌-◌, ◌*◌, ◌≤◌}
-use native.Mathlib.Omega.{arith}
-use native.Mathlib.Nat.{le_antisymm}
-use mathlib.Core.Path.{◌≡◌, refl, ◌∙◌}
+use mathlib.Core.Path.{◌≡◌}
 use lib.ListN.{length}
 use Rattle.property.specs.GateInit.{gating, gate_steps}
-use Rattle.property.proofs.Gating.{steps_turn, turn_bounded}
-use borrow.Author.Rules.{rules}
 use Rattle.property.proofs.gate_init.gate_steps.Given as goal
 
 abbrev pub invariant-loop-j : goal.invariant-loop-j

@@ -1,7 +1,6 @@
 -- `property::gate_init::initless` meets its contract.
 use mathlib.Core.Path.{sym, ◌∙◌}
 use Rattle.property.proofs.Initless.{initless_gated, initless_left}
-use borrow.Author.Rules.{rules}
 use Rattle.property.proofs.gate_init.initless.Goals as goal
 
 pub returns-then-is_gated : goal.returns-then-is_gated

@@ -1,7 +1,6 @@
 -- `property::gate_init::need` meets its contract.
 use mathlib.Core.Path.{ap}
 use Rattle.property.specs.GateInit.{Gating}
-use borrow.Author.Rules.{rules}
 use Rattle.property.proofs.gate_init.need.Goals as goal
 
 pub returns : goal.returns

@@ -1,7 +1,6 @@
 -- `property::gate_init::put` meets its contract.
 use mathlib.Core.Path.{sym}
 use lib.Seq.{set_out}
-use borrow.Author.Rules.{rules}
 use Rattle.property.proofs.gate_init.put.Goals as goal
 
 pub returns-else-k-list : goal.returns-else-k-list

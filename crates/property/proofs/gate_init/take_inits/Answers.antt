@@ -1,9 +1,7 @@
 -- `property::gate_init::take_inits` meets its contract.
-use Prim.Native.Nat.{◌-◌, ◌≤◌}
 use native.Mathlib.Omega.{arith}
 use native.Mathlib.Nat.{le_antisymm}
-use mathlib.Core.Path.{◌≡◌, refl}
-use lib.ListN.{length}
+use mathlib.Core.Path.{refl}
 use Rattle.property.specs.GateInit.{inits_taken}
 use Rattle.property.proofs.Initless.{inits_turn}
 use borrow.Author.Rules.{rules}

@@ -2,9 +2,8 @@
 use native.Mathlib.Omega.{arith}
 use mathlib.Core.Path.{ap, ◌∙◌}
 use Rattle.graph.specs.Latches.{latch_set}
-use Rattle.property.specs.GateInit.{Part, part}
+use Rattle.property.specs.GateInit.{part}
 use Rattle.property.proofs.Constraining.{write_none, write_room, write_done}
-use borrow.Author.Rules.{rules}
 use Rattle.property.proofs.gate_init.write.Goals as goal
 
 pub any_gated-requires : goal.any_gated-requires

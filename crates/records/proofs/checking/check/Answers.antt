@@ -1,6 +1,5 @@
 -- `records::checking::check` meets its contract.
 use Rattle.std.proofs.Common.{ap, length, ◌∙◌}
-use Rattle.graph.specs.Check.{check_seen}
 use Rattle.records.specs.Checking.{check_with, check_refused}
 use Rattle.records.specs.Steps.{on_words}
 use Rattle.records.proofs.Working.{on_records_lem}

@@ -3,7 +3,6 @@ use native.Mathlib.Omega.{arith}
 use Rattle.graph.specs.Check.{check_seen}
 use Rattle.records.specs.Checking.{check_with, check_refused}
 use Rattle.records.proofs.Working.{too_few, done_on, front_length}
-use borrow.Author.Rules.{rules}
 use Rattle.records.proofs.checking.check_words.Goals as goal
 
 pub returns-then-words-n : goal.returns-then-words-n

@@ -1,9 +1,9 @@
 -- `records::words::to_words` meets its contract.
 use native.Mathlib.Omega.{arith}
 use native.Mathlib.Nat.{le_antisymm}
-use Rattle.std.proofs.Common.{length, ap, sym, ◌∙◌, ◌/◌}
+use Rattle.std.proofs.Common.{length, ap, ◌∙◌, ◌/◌}
 use Rattle.graph.specs.Latches.{latch_words}
-use Rattle.records.proofs.Laying.{sofar, sofar_length, sofar_copied, copied_within}
+use Rattle.records.proofs.Laying.{sofar, sofar_copied, copied_within}
 use Rattle.records.proofs.words.to_words.Goals as goal
 
 pub offset_bounds-table-i : goal.offset_bounds-table-i

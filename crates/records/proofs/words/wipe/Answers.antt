@@ -1,7 +1,6 @@
 -- `records::words::wipe` meets its contract.
 use borrow.Author.Tests.{le-leb, lt-leb}
 use Rattle.records.specs.Table.{wiped}
-use borrow.Author.Rules.{rules}
 use Rattle.records.proofs.words.wipe.Goals as goal
 
 pub returns-then-n-words : goal.returns-then-n-words

@@ -1,7 +1,6 @@
 -- `reencode::gate_rows::rebuild_gate` meets its contract.
 use Rattle.renumber.specs.Renumber.{by}
 use Rattle.reencode.proofs.Turning.{gate_mapped, gate_passed, gate_rebuilt}
-use borrow.Author.Rules.{rules}
 use Rattle.reencode.proofs.gate_rows.rebuild_gate.Goals as goal
 
 pub returns-then-not-is_gate : goal.returns-then-not-is_gate

@@ -1,14 +1,12 @@
 -- `reencode::gate_rows::rebuild_gates` meets its contract.
-use Prim.Native.Nat.{◌+◌, ◌-◌, ◌≤◌}
 use native.Mathlib.Omega.{arith}
 use native.Mathlib.Nat.{le_antisymm}
-use mathlib.Core.Path.{◌≡◌, refl}
-use lib.ListN.{length, drop}
+use mathlib.Core.Path.{refl}
 use Rattle.renumber.specs.Renumber.{by}
-use Rattle.graph.specs.Count.{count_below, gates_below}
+use Rattle.graph.specs.Count.{count_below}
 use Rattle.reencode.specs.Numbers.{numbered}
 use Rattle.reencode.specs.Rebuilding.{gates_added}
-use Rattle.reencode.proofs.Numbering.{Halfway, half_start, next_number, half_turn, half_beyond, gates_turn, gate_ready}
+use Rattle.reencode.proofs.Numbering.{half_start, next_number, half_turn, half_beyond, gates_turn, gate_ready}
 use borrow.Author.Rules.{rules}
 use Rattle.reencode.proofs.gate_rows.rebuild_gates.Goals as goal
 

@@ -1,9 +1,7 @@
 -- `reencode::leaves::count_leaves` meets its contract.
-use Prim.Native.Nat.{◌-◌, ◌≤◌}
 use native.Mathlib.Omega.{arith}
 use native.Mathlib.Nat.{le_antisymm}
-use mathlib.Core.Path.{◌≡◌, refl}
-use mathlib.Core.Logic.{⊎_elim}
+use mathlib.Core.Path.{refl}
 use Rattle.rows.specs.Rows.{leaf_at}
 use Rattle.graph.specs.Count.{count_below}
 use Rattle.reencode.proofs.Leaving.{none_leaf, else_no_leaf}

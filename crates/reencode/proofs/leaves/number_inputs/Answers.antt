@@ -1,9 +1,9 @@
 -- `reencode::leaves::number_inputs` meets its contract.
-use Prim.Native.Nat.{ℕ, ◌-◌, ◌≤◌}
+use Prim.Native.Nat.{ℕ}
 use native.Mathlib.Omega.{arith}
 use native.Mathlib.Nat.{le_antisymm}
-use mathlib.Core.Path.{◌≡◌, refl}
-use lib.ListN.{length, get_or}
+use mathlib.Core.Path.{refl}
+use lib.ListN.{get_or}
 use Rattle.reencode.specs.Steps.{placed}
 use Rattle.reencode.proofs.Placing.{placed_turn}
 use borrow.Author.Rules.{rules}

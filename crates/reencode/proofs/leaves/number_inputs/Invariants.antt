@@ -1,11 +1,7 @@
 use Prim.Native.Nat.{ℕ, ◌-◌, ◌≤◌}
-use native.Mathlib.Omega.{arith}
-use native.Mathlib.Nat.{le_antisymm}
-use mathlib.Core.Path.{◌≡◌, refl}
+use mathlib.Core.Path.{◌≡◌}
 use lib.ListN.{length, get_or}
 use Rattle.reencode.specs.Steps.{placed}
-use Rattle.reencode.proofs.Placing.{placed_turn}
-use borrow.Author.Rules.{rules}
 use Rattle.reencode.proofs.leaves.number_inputs.Given as goal
 
 abbrev pub invariant-loop-j : goal.invariant-loop-j

@@ -1,13 +1,8 @@
 use Prim.Native.Nat.{ℕ, ◌-◌, ◌≤◌}
-use native.Mathlib.Omega.{arith}
-use native.Mathlib.Nat.{le_antisymm}
-use mathlib.Core.Path.{◌≡◌, refl, ap}
+use mathlib.Core.Path.{◌≡◌}
 use lib.ListN.{length}
-use Rattle.graph.specs.declared.latch.Latch.{Latch}
 use Rattle.graph.specs.Latches.{latch_at}
 use Rattle.reencode.specs.Steps.{placed}
-use Rattle.reencode.proofs.Placing.{placed_turn}
-use borrow.Author.Rules.{rules}
 use Rattle.reencode.proofs.leaves.number_latches.Given as goal
 
 abbrev pub invariant-loop-j : goal.invariant-loop-j

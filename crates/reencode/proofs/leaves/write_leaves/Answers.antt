@@ -1,8 +1,6 @@
 -- `reencode::leaves::write_leaves` meets its contract.
-use Prim.Native.Nat.{◌-◌, ◌≤◌}
 use native.Mathlib.Nat.{le_antisymm}
-use mathlib.Core.Path.{◌≡◌, refl}
-use lib.ListN.{length}
+use mathlib.Core.Path.{refl}
 use Rattle.reencode.specs.Rebuilding.{leaves_added}
 use Rattle.reencode.proofs.Turning.{leaves_turn}
 use borrow.Author.Rules.{rules}

@@ -1,10 +1,7 @@
 use Prim.Native.Nat.{◌-◌, ◌≤◌}
-use native.Mathlib.Nat.{le_antisymm}
-use mathlib.Core.Path.{◌≡◌, refl}
+use mathlib.Core.Path.{◌≡◌}
 use lib.ListN.{length}
 use Rattle.reencode.specs.Rebuilding.{leaves_added}
-use Rattle.reencode.proofs.Turning.{leaves_turn}
-use borrow.Author.Rules.{rules}
 use Rattle.reencode.proofs.leaves.write_leaves.Given as goal
 
 abbrev pub invariant-loop-i : goal.invariant-loop-i
