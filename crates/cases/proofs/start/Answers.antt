@@ -1,9 +1,7 @@
 -- `cases::start` is safe and ends. The loop keeps the lengths of the arrays: each call keeps those of the slices that it is lent. The measure is the number of
 -- turns that are left.
-use mathlib.Core.Path.{◌≡◌, ◌∙◌}
+use mathlib.Core.Path.{◌∙◌}
 use native.Mathlib.Omega.{arith}
-use lib.ListN.{length}
-use borrow.Author.Rules.{rules}
 use Rattle.cases.proofs.start.Goals as goal
 
 pub loop-turns-smaller : goal.loop-turns-smaller

@@ -1,7 +1,5 @@
 -- `recorded::frames` is safe and ends. The loop keeps the lengths of what is lent; the measure is the number of frames that are left.
-use Prim.Native.Nat.{◌-◌, ◌≤◌}
-use mathlib.Core.Path.{◌≡◌, ◌∙◌}
-use lib.ListN.{length}
+use mathlib.Core.Path.{◌∙◌}
 use borrow.Author.Rules.{rules}
 use Rattle.recorded.proofs.frames.Goals as goal
 

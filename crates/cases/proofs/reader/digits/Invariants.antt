@@ -1,6 +1,5 @@
 use mathlib.Core.Path.{◌≡◌}
 use lib.ListN.{length}
-use borrow.Author.Rules.{rules}
 use Rattle.cases.proofs.reader.digits.Given as goal
 
 abbrev pub invariant-loop-turns : goal.invariant-loop-turns

@@ -1,6 +1,5 @@
 use mathlib.Core.Path.{◌≡◌}
 use lib.ListN.{length}
-use borrow.Author.Rules.{rules}
 use Rattle.cases.proofs.script.read_slots.Given as goal
 
 abbrev pub invariant-loop-left : goal.invariant-loop-left

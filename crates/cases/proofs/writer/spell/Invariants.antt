@@ -1,6 +1,5 @@
 use mathlib.Core.Path.{◌≡◌}
 use lib.ListN.{length}
-use borrow.Author.Rules.{rules}
 use Rattle.cases.proofs.writer.spell.Given as goal
 
 abbrev pub invariant-loop-at : goal.invariant-loop-at
