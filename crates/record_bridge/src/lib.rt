@@ -1,4 +1,4 @@
-// Calls through records for callers that hold flat words: the latches stand in tables of records while the call runs, and whoever calls these needs no proof by hand.
+// Calls through records for callers that hold flat words: the latches stand in tables of records while the call runs.
 // Each graph lends exactly a table of latches, used or not; else the answer is 1.
 #![tactic(auto)]
 

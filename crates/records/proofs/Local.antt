@@ -1,4 +1,4 @@
--- A local table of records: what is read into it, what is written back of it, and the slice that it is lent as.
+-- A local table of records: what is read into it, and what is written back of it.
 -- Assumes nothing.
 use Prim.Native.Nat.{ℕ, ◌*◌, ◌/◌}
 use mathlib.Core.Path.{◌≡◌, sym, ap, ◌∙◌}

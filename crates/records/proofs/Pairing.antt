@@ -40,7 +40,7 @@ module _ {S : Type 0} (call : List ℕ → List ℕ → S) (refused : List ℕ �
 -- ---- on records. `seen` is what is left to be seen with other latches, and `get` and `put` are the latches of that; of the latches the call changes the nexts alone
 module _ {S : Type 0} (call : List ℕ → List ℕ → S) (refused seen : List ℕ → S) (get : S → List ℕ) (put : S → List ℕ → S)
     (get_seen : (l : List ℕ) → get (seen l) ≡ l) (get_refused : (l : List ℕ) → get (refused l) ≡ l)
-    (put-seen : (l m : List ℕ) → put (seen l) m ≡ seen m) (Put-refused : (l m : List ℕ) → put (refused l) m ≡ refused m)
+    (put_seen : (l m : List ℕ) → put (seen l) m ≡ seen m) (put_refused : (l m : List ℕ) → put (refused l) m ≡ refused m)
     (keeps : (x y : List ℕ) → NextsAlone x (get (call x y)))
     (t : List Latch) (words : List ℕ) (t2 : List Latch) (words2 : List ℕ) (after : List ℕ)
     (called : fronted (seen (front (length t) after)) (behind (length t) after) ≡ on_both (length t) (laid_out t words) (length t2) (laid_out t2 words2) call refused)
@@ -100,7 +100,7 @@ module _ {S : Type 0} (call : List ℕ → List ℕ → S) (refused seen : List 
     seen_without : seen (words_of (nexts_back t after)) ≡ refused (words_of t)
     seen_without =
         ap (λ (u : List Latch). seen (words_of u)) (back_stays take_next t after (room_like t after words long ∙ none))
-        ∙ (sym (put-seen (front (length t) after) (words_of t)) ∙ (ap (λ (s : S). put s (words_of t)) refused_at ∙ Put-refused (front (length t) words) (words_of t)))
+        ∙ (sym (put_seen (front (length t) after) (words_of t)) ∙ (ap (λ (s : S). put s (words_of t)) refused_at ∙ put_refused (front (length t) words) (words_of t)))
 
   seen_right_lem : (a : Bool) → room_for t words ≡ a → seen (words_of (nexts_back t after)) ≡ cond (a && room_for t2 words2) (call (words_of t) (words_of t2)) (refused (words_of t))
   seen_right_lem true e = seen_with e

@@ -1,4 +1,4 @@
-// The constructors in place for callers that hold the counts by value: the record is lent and comes back, and whoever calls these needs no proof by hand.
+// The constructors in place for callers that hold the counts by value: the record is lent and comes back.
 ghost use Rattle.std.specs.Prelude.{◌≡◌};
 ghost use Rattle.build_leaves.specs.Calls.{added_seen};
 ghost use Rattle.build_leaves.specs.Leaves.{new_input_call, add_input_call};

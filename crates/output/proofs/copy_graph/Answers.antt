@@ -4,22 +4,11 @@ use Rattle.graph.specs.Graph.{lent}
 use Rattle.output.proofs.Copying.{all_copied}
 use Rattle.output.proofs.copy_graph.Goals as goal
 
--- ?? overflow-mul-copy-words
--- mul-copy-words c =
---     let start = c.before.before.before.before.before.before.before.before.before.before.before.before.before.before.before.before.before.before.before.before in
---     omega (arith, start.requires.has.rows)
-
 pub copy_words-requires : goal.copy_words-requires
 copy_words-requires c = record { has = omega (arith, c.requires.has.rows); room = omega (arith, c.requires.room.rows) }
 
 pub copy_words-requires-2 : goal.copy_words-requires-2
 copy_words-requires-2 c = record { has = omega (arith, c.requires.has.inputs); room = omega (arith, c.requires.room.inputs) }
-
--- ?? overflow-mul-copy-words-2
--- mul-copy-words-2 c =
---     let start = c.before.before.before.before.before.before.before.before.before.before.before.before.before.before.before.before.before.before.before.before in
---     let start = start.before.before.before.before.before.before.before.before.before in
---     omega (arith, start.requires.has.latches, start.well_formed.1.1.0)
 
 pub copy_words-requires-3 : goal.copy_words-requires-3
 copy_words-requires-3 c = record { has = omega (arith, c.requires.has.latches); room = omega (arith, c.requires.room.latches) }

@@ -27,9 +27,6 @@ loop-i-init c = (search rules, refl, refl)
 pub overflow_cast-x : goal.overflow_cast-x
 overflow_cast-x c = omega (arith, c.type_inv.edges c.loop-i.i)
 
--- ?? overflow-mul-marks
--- mul-marks c = omega (arith, c.shared-slice-known.given c.before.before.loop.i)
-
 pub bounds-marks-x : goal.bounds-marks-x
 bounds-marks-x c = omega (arith, used (goal.at.bounds-marks-x c).After-shared_slice_known-1)
 

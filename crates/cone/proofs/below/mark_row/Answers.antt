@@ -28,17 +28,11 @@ returns-then-not-flags-i c = sym (row_stays c.args.rows.now c.args.i c.args.flag
 pub overflow_cast-x : goal.overflow_cast-x
 overflow_cast-x c = omega (arith, fanins (goal.at.overflow_cast-x c).Else-not-flags-i)
 
--- ?? overflow-mul-flags
--- mul-flags c = omega (arith, fanins c)
-
 pub bounds-flags-x : goal.bounds-flags-x
 bounds-flags-x c = omega (arith, fanins (goal.at.bounds-flags-x c).Else-not-flags-i)
 
 pub overflow_cast-y : goal.overflow_cast-y
 overflow_cast-y c = omega (arith, fanins (goal.at.overflow_cast-y c).Else-not-flags-i)
-
--- ?? overflow-mul-flags-2
--- mul-flags-2 c = omega (arith, fanins c)
 
 pub bounds-flags-y : goal.bounds-flags-y
 bounds-flags-y c = rw length-set (omega (arith, fanins (goal.at.bounds-flags-y c).Else-not-flags-i))

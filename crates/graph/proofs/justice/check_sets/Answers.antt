@@ -28,14 +28,8 @@ overflow_cast-end c = omega (arith, c.type_inv.ends c.sets.s)
 pub loop-k-init : goal.loop-k-init
 loop-k-init c = (search rules, omega (arith, (good_end (goal.at.loop-k-init c).In-sets).rises, c.sets.invariant.2), c.sets.invariant.1, c.sets.invariant.3)
 
--- ?? overflow-mul-is-used
--- mul-is-used c = omega (arith, (good_end c.before.before.before).within)
-
 pub bounds-edges-k : goal.bounds-edges-k
 bounds-edges-k c = omega (arith, (good_end (goal.at.bounds-edges-k c).In-sets).within)
-
--- ?? overflow-add-t21
--- add-t21 c = omega (arith, (good_end c.before.before.before.before.before.before).within)
 
 pub overflow_add-k : goal.overflow_add-k
 overflow_add-k c = omega (arith, (good_end (goal.at.overflow_add-k c).In-sets).within)
