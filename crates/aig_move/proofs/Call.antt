@@ -3,24 +3,24 @@
 use Prim.Native.Nat.{ℕ, ◌≤◌}
 use native.Mathlib.Omega.{arith}
 use mathlib.Core.Path.{◌≡◌, refl, sym, ap, ◌∙◌}
-use mathlib.Core.Bool.{Bool, true, false, not, cond}
+use mathlib.Core.Bool.{Bool, true, false, cond}
 use mathlib.Core.List.{List, []}
 use lib.ListN.{length}
-use lib.Dec.{eqb}
-use borrow.Author.Tests.{eqb-true, eqb-false, not-true, not-false}
-use Rattle.edge.specs.declared.answer.Answer.{Answer}
-use Rattle.edge.specs.declared.answer.Answer.TheVariants.{NoRoom}
+use borrow.Author.Tests.{eqb-false}
+use Rattle.std.specs.Prelude.{Ok, Err}
+use Rattle.edge.specs.declared.answer.Refusal.{Refusal}
+use Rattle.edge.specs.declared.answer.Refusal.TheVariants.{NoRoom}
 use Rattle.edge.specs.declared.answer.Given.{Given}
-use Rattle.edge.specs.Answers.{done, no_room, told}
-use Rattle.edge.proofs.Answers.{stops_here, goes_past, none_of_two, test_done, test_refused}
+use Rattle.edge.specs.Answers.{done, no_room, refused}
+use Rattle.edge.proofs.Answers.{stops_here, goes_past, none_of_two, not_done}
 use Rattle.rows.specs.Sizes.{max_entries}
 use Rattle.graph.specs.declared.Counts.{Counts}
 use Rattle.graph.specs.Graph.{Lent}
 use Rattle.graph.specs.Check.{CheckSeen, check_seen}
-use Rattle.renumber.specs.declared.Rebuilt.{Rebuilt}
+use Rattle.renumber.specs.Seen.{rebuilt_seen}
 use Rattle.output.specs.Room.{room_in, fits_in, Fits, has_room}
 use Rattle.output.proofs.Fitting.{limited, fits_known}
-use Rattle.output.proofs.Asking.{asked_accepted, asked_done}
+use Rattle.output.proofs.Asking.{asked_accepted}
 use Rattle.aig_move.specs.Moving.{making, counts_with, moved_counts, moved}
 use Rattle.aig_move.specs.Steps.{MakeReady, MoveReady}
 use Rattle.renumber.specs.Steps.{FoundSeen, found_seen}
@@ -57,25 +57,24 @@ all_right g out marks z =
     let a = asked_accepted true g (room_in out) marks t.0 in
     record { limited = limited out a.roomy; sized = a.sized; well_formed = a.well_formed; room = room_known g (room_in out) marks t.1 }
 
--- ---- the check: a is the answer up to 3, `after` are the marks, and d says whether it is done
-module _ (g : Lent) (room : Counts) (marks : List ℕ) (a : Answer) {after : List ℕ} (seen : check_seen a after ≡ move_asked g room marks) {d : Bool} (test : d ≡ eqb (told a).number 0) where
-  given : told a ≡ (move_asked g room marks).given
-  given = ap (λ (s : CheckSeen). s.given) seen
-
-  kept : after ≡ (move_asked g room marks).marks
-  kept = ap (λ (s : CheckSeen). s.marks) seen
-
-  pub checked_refused : not d ≡ true → record { given = told a; counts = g.counts; marks = after } ≡ move_checked g room marks
+-- ---- the check: `after` are the marks behind answers 1 to 3
+module _ (g : Lent) (room : Counts) (marks after : List ℕ) where
+  pub checked_refused : (f : Refusal) → check_seen (Err f) after ≡ move_asked g room marks → found_seen g.counts (Err f) after ≡ move_checked g room marks
   unfolding move_checked
-  checked_refused h =
-      let f = test_refused given test h in
-      rw (answer_stops g room marks (eqb-false _ _ f), f, given, kept)
+  checked_refused f seen =
+      let given : refused f ≡ (move_asked g room marks).given = ap (λ (s : CheckSeen). s.given) seen in
+      let kept : after ≡ (move_asked g room marks).marks = ap (λ (s : CheckSeen). s.marks) seen in
+      let stopped : (move_asked g room marks).given.number ≡ 0 → ⊥ = λ z. eqb-false _ _ (not_done f) (ap (λ (t : Given). t.number) given ∙ z) in
+      rw (answer_stops g room marks stopped, ← given, ← kept, not_done f) refl
 
-  module _ (h : not d ≡ false) where
+  module _ (seen : check_seen (Ok tt) after ≡ move_asked g room marks) where
     number : (move_asked g room marks).given.number ≡ 0
-    number = eqb-true _ _ (test_done given test h)
+    number = ap (λ (s : CheckSeen). s.given.number) (sym seen)
 
-    pub to_make : MakeReady g.constraints g.bads g.outputs g.counts
+    kept : after ≡ (move_asked g room marks).marks
+    kept = ap (λ (s : CheckSeen). s.marks) seen
+
+    pub to_make : MakeReady g
     to_make = make_ready g (length marks) (asked_accepted true g room marks number).sized
 
     pub few_latches : g.counts.latches ≤ max_entries
@@ -89,47 +88,39 @@ module _ (g : Lent) (room : Counts) (marks : List ℕ) (a : Answer) {after : Lis
       room_is : fits ≡ fits_in room (moved_counts g)
       room_is = e ∙ ap (fits_in room) need_is
 
-      pub no_room_lem : not fits ≡ true → record { given = told NoRoom; counts = g.counts; marks = after } ≡ move_checked g room marks
+      pub no_room_lem : fits ≡ false → found_seen g.counts (Err NoRoom) after ≡ move_checked g room marks
       unfolding move_checked
-      no_room_lem f = rw (answer_goes g room marks number, sym room_is ∙ not-true fits f, kept)
+      no_room_lem f = rw (answer_goes g room marks number, sym room_is ∙ f, kept)
 
-      pub all_found : not fits ≡ false → record { given = told a; counts = need; marks = after } ≡ move_checked g room marks
+      pub all_found : fits ≡ true → found_seen g.counts (Ok need) after ≡ move_checked g room marks
       unfolding move_checked
-      all_found f = rw (answer_goes g room marks number, sym room_is ∙ not-false fits f, given, asked_done true g room marks number, need_is, kept)
+      all_found f = rw (answer_goes g room marks number, sym room_is ∙ f, need_is, kept)
 
--- ---- the call: r is what the check found, `after` are the marks, and d says whether the answer is done
-module _ (g out : Lent) (marks : List ℕ) (r : Rebuilt) {after : List ℕ} (seen : found_seen r after ≡ move_checked g (room_in out) marks) {d : Bool} (test : d ≡ eqb (told r.answer).number 0) where
-  answer_is : told r.answer ≡ move_answer g (room_in out) marks
-  unfolding move_checked
-  answer_is = ap (λ (s : FoundSeen). s.given) seen
+-- ---- the call: `after` are the marks behind the check
+module _ (g out : Lent) (marks after : List ℕ) where
+  pub move_refused : (f : Refusal) → found_seen g.counts (Err f) after ≡ move_checked g (room_in out) marks → rebuilt_seen (Err f) out after ≡ move_call g out marks
+  unfolding move_checked move_call
+  move_refused f seen =
+      let answer : refused f ≡ move_answer g (room_in out) marks = ap (λ (s : FoundSeen). s.given) seen in
+      let kept : after ≡ (move_asked g (room_in out) marks).marks = ap (λ (s : FoundSeen). s.marks) seen in
+      rw (← answer, ← kept, not_done f) refl
 
-  marks_are : after ≡ (move_asked g (room_in out) marks).marks
-  unfolding move_checked
-  marks_are = ap (λ (s : FoundSeen). s.marks) seen
-
-  is_done : d ≡ eqb (move_answer g (room_in out) marks).number 0
-  is_done = test ∙ ap (λ (t : Given). eqb t.number 0) answer_is
-
-  module _ (h : d ≡ false) where
-    pub counts_stay : r.counts ≡ g.counts
+  module _ (n : Counts) (seen : found_seen g.counts (Ok n) after ≡ move_checked g (room_in out) marks) where
+    answer : done ≡ move_answer g (room_in out) marks
     unfolding move_checked
-    counts_stay = ap (λ (s : FoundSeen). s.counts) seen ∙ rw (sym is_done ∙ h)
+    answer = ap (λ (s : FoundSeen). s.given) seen
 
-    pub move_refused : record { given = told r.answer; graph = out; marks = after } ≡ move_call g out marks
-    unfolding move_call
-    move_refused = rw (sym is_done ∙ h, answer_is, marks_are)
-
-  module _ (h : d ≡ true) where
-    right : MoveLent g out marks
-    right = all_right g out marks (eqb-true _ _ (sym is_done ∙ h))
-
-    pub counts_found : r.counts ≡ moved_counts g
+    pub counts_found : n ≡ moved_counts g
     unfolding move_checked
-    counts_found = ap (λ (s : FoundSeen). s.counts) seen ∙ rw (sym is_done ∙ h)
+    counts_found = ap (λ (s : FoundSeen). s.counts) seen ∙ rw (← answer) refl
 
     pub ready_to_write : MoveReady g out
-    ready_to_write = record { marked = length marks; sized = right.sized; room = right.room }
+    ready_to_write =
+        let right = all_right g out marks (ap (λ (t : Given). t.number) (sym answer)) in
+        record { marked = length marks; sized = right.sized; room = right.room }
 
-    pub move_done : {new : Lent} → new ≡ moved g out → record { given = told r.answer; graph = new; marks = after } ≡ move_call g out marks
-    unfolding move_call
-    move_done a = rw (sym is_done ∙ h, answer_is, a, marks_are)
+    pub move_done : {new : Lent} → new ≡ moved g out → rebuilt_seen (Ok n) new after ≡ move_call g out marks
+    unfolding move_checked move_call
+    move_done a =
+        let kept : after ≡ (move_asked g (room_in out) marks).marks = ap (λ (s : FoundSeen). s.marks) seen in
+        rw (← answer, a, kept) refl

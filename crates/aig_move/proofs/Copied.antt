@@ -14,14 +14,15 @@ use Rattle.output.specs.Room.{Room}
 use Rattle.output.specs.Copying.{copy_of}
 use Rattle.output.specs.Steps.{CopyFits}
 use Rattle.aig_move.specs.declared.making.Made.{Made}
-use Rattle.aig_move.specs.Making.{Making, making_in}
+use Rattle.aig_move.specs.Making.{Making}
 use Rattle.aig_move.specs.Steps.{making_seen}
-use Rattle.aig_move.specs.Moving.{copy_counts, counts_with, moved_counts, first_set, finished, moved}
+use Rattle.aig_move.specs.Moving.{making, copy_counts, counts_with, moved_counts, first_set, finished, moved}
 use Rattle.aig_move.specs.Steps.{MakeReady, FinishReady, MoveReady}
+use Rattle.output.proofs.Copying.{is_copy}
 use Rattle.aig_move.proofs.Steps.{making_more}
 
 -- what `make` needs
-pub make_ready : (g : Lent) (marks : ℕ) → Sized g marks → MakeReady g.constraints g.bads g.outputs g.counts
+pub make_ready : (g : Lent) (marks : ℕ) → Sized g marks → MakeReady g
 make_ready g marks s =
     record {
       rows = omega (arith, s.rows.fit.within, s.rows.fit.limited);
@@ -51,71 +52,55 @@ copy_room g out o =
 abbrev with : Lent → Counts → Lent
 with g n = lent g.rows g.inputs g.latches g.constraints g.bads g.outputs g.ends g.edges g.fairness n
 
-module _ (g out : Lent) (r : MoveReady g out) {n : Counts} (e : n ≡ copy_counts g.counts) where
-  -- the entries stand in g, and there is room for them
-  has : (k : Counts) → Room (with g k) (copy_counts g.counts)
-  has k =
-      let s = r.sized in
-      record {
-        rows = s.rows.fit.within;
-        inputs = s.inputs.within;
-        latches = s.latches.within;
-        constraints = omega arith;
-        bads = s.bads.within;
-        outputs = s.outputs.within;
-        ends = s.ends.within;
-        edges = s.edges.within;
-        fairness = s.fairness.within;
-      }
-
-  room : (k : Counts) → Room (with out k) (copy_counts g.counts)
-  room k =
-      let o = copy_room g out r.room in
-      record { rows = o.rows; inputs = o.inputs; latches = o.latches; constraints = o.constraints; bads = o.bads; outputs = o.outputs; ends = o.ends; edges = o.edges; fairness = o.fairness }
+module _ (g out : Lent) (r : MoveReady g out) where
+  abbrev n : Counts
+  n = copy_counts g.counts
 
   pub copy_fits : CopyFits (with g n) (with out n) n
-  copy_fits = rw e (record { has = has (copy_counts g.counts); room = room (copy_counts g.counts) })
+  copy_fits =
+      let s = r.sized in
+      let o = copy_room g out r.room in
+      record {
+        has = record {
+          rows = s.rows.fit.within;
+          inputs = s.inputs.within;
+          latches = s.latches.within;
+          constraints = omega arith;
+          bads = s.bads.within;
+          outputs = s.outputs.within;
+          ends = s.ends.within;
+          edges = s.edges.within;
+          fairness = s.fairness.within;
+        };
+        room = record { rows = o.rows; inputs = o.inputs; latches = o.latches; constraints = o.constraints; bads = o.bads; outputs = o.outputs; ends = o.ends; edges = o.edges; fairness = o.fairness };
+      }
 
   -- c is the copy
-  module _ {x1 x2 x3 x4 x5 x6 x7 x8 x9 : List ℕ} (copy : lent x1 x2 x3 x4 x5 x6 x7 x8 x9 n ≡ copy_of n (with g n) (with out n)) (k3 : length x3 ≡ length out.latches)
-      (k5 : length x5 ≡ length out.bads) (k6 : length x6 ≡ length out.outputs) where
-    pub finish_ready : FinishReady g.constraints g.bads g.outputs x3 x5 x6 g.counts
-    unfolding counts_with
-    finish_ready =
-        record {
-          make = make_ready g r.marked r.sized;
-          latch = omega (arith, k3, r.room.latches);
-          bads_room = omega (arith, k5, r.room.bads);
-          outputs_room = omega (arith, k6, r.room.outputs);
-        }
+  pub finish_ready : (c : Lent) → c ≡ copy_of n (with g n) (with out n) → FinishReady g c
+  unfolding counts_with
+  finish_ready c copy =
+      let k = is_copy n (with g n) (with out n) copy_fits.room in
+      let latches : length c.latches ≡ length out.latches = ap (λ (x : Lent). length x.latches) copy ∙ k.latches.long in
+      let bads : length c.bads ≡ length out.bads = ap (λ (x : Lent). length x.bads) copy ∙ k.bads.long in
+      let outputs : length c.outputs ≡ length out.outputs = ap (λ (x : Lent). length x.outputs) copy ∙ k.outputs.long in
+      record {
+        make = make_ready g r.marked r.sized;
+        latch = omega (arith, latches, r.room.latches);
+        bads_room = omega (arith, bads, r.room.bads);
+        outputs_room = omega (arith, outputs, r.room.outputs);
+      }
 
-    copy_is : lent x1 x2 x3 x4 x5 x6 x7 x8 x9 n ≡ copy_of n g out
-    unfolding copy_of
-    copy_is = copy
+  pub all_moved : (c : Lent) → c ≡ copy_of n (with g n) (with out n) → finished g c ≡ moved g out
+  unfolding moved copy_of
+  all_moved c copy = ap (finished g) copy
 
-    abbrev m : Making
-    m = making_in x1 g.constraints g.bads g.outputs g.counts
-
-    pub all_moved : {y1 y3 y5 y6 : List ℕ} → y1 ≡ m.rows → y3 ≡ latch_set x3 g.counts.latches (latch g.counts.rows m.next (constant_of true))
-        → y5 ≡ first_set x5 g.counts.bads m.bad → y6 ≡ first_set x6 g.counts.outputs m.output
-        → lent y1 x2 y3 x4 y5 y6 x7 x8 x9 (moved_counts g) ≡ moved g out
-    unfolding moved finished
-    all_moved p q s t = rw (p, q, s, t) (ap (finished g) (copy_is ∙ ap (λ (k : Counts). copy_of k g out) e))
-
--- ---- what is done on the copy, by what was made
-module _ (rows latches bads outputs : List ℕ) (from-constraints from-bads from-outputs : List ℕ) (n : Counts) {now : List ℕ} (r : Made)
-    (e : making_seen now r ≡ making_in rows from-constraints from-bads from-outputs n) where
-  abbrev all : Making
-  all = making_in rows from-constraints from-bads from-outputs n
-
-  pub rows_done : now ≡ all.rows
-  rows_done = ap (λ (x : Making). x.rows) e
-
-  pub latch_done : {l : List ℕ} → l ≡ latch_set latches n.latches (latch n.rows r.next (constant_of true)) → l ≡ latch_set latches n.latches (latch n.rows all.next (constant_of true))
-  latch_done p = p ∙ ap (λ (x : Making). latch_set latches n.latches (latch n.rows x.next (constant_of true))) e
-
-  pub bad_done : {l : List ℕ} → l ≡ first_set bads n.bads r.bad → l ≡ first_set bads n.bads all.bad
-  bad_done p = p ∙ ap (λ (x : Making). first_set bads n.bads x.bad) e
-
-  pub output_done : {l : List ℕ} → l ≡ first_set outputs n.outputs r.output → l ≡ first_set outputs n.outputs all.output
-  output_done p = p ∙ ap (λ (x : Making). first_set outputs n.outputs x.output) e
+-- ---- what is done on the copy c, by what was made
+module _ (g c : Lent) {rows latches bads outputs : List ℕ} (r : Made) (e : making_seen rows r ≡ making g c.rows) where
+  pub all_finished : latches ≡ latch_set c.latches g.counts.latches (latch g.counts.rows r.next (constant_of true))
+      → bads ≡ first_set c.bads g.counts.bads r.bad → outputs ≡ first_set c.outputs g.counts.outputs r.output
+      → lent rows c.inputs latches c.constraints bads outputs c.ends c.edges c.fairness (moved_counts g) ≡ finished g c
+  unfolding finished
+  all_finished l b o =
+      rw (l, b, o)
+      (ap (λ (m : Making). lent m.rows c.inputs (latch_set c.latches g.counts.latches (latch g.counts.rows m.next (constant_of true))) c.constraints
+      (first_set c.bads g.counts.bads m.bad) (first_set c.outputs g.counts.outputs m.output) c.ends c.edges c.fairness (moved_counts g)) e)

@@ -16,20 +16,20 @@ use Rattle.aig_move.specs.Making.{Making}
 abbrev pub making_seen : List ℕ → Made → Making
 making_seen rows r = record { rows = rows; used = r.used; next = r.next; bad = r.bad; output = r.output }
 
--- the lists have the entries that n counts, and all new edges are words
-pub record MakeReady (constraints bads outputs : List ℕ) (n : Counts) : Type 0 where
-  pub rows : n.rows ≤ max_rows
-  pub constraints_has : n.constraints ≤ length constraints
-  pub few : n.constraints ≤ max_entries
-  pub bads_has : n.bads ≤ length bads
-  pub outputs_has : n.outputs ≤ length outputs
+-- the lists have the entries that are counted, and all new edges are words
+pub record MakeReady (g : Lent) : Type 0 where
+  pub rows : g.counts.rows ≤ max_rows
+  pub constraints_has : g.counts.constraints ≤ length g.constraints
+  pub few : g.counts.constraints ≤ max_entries
+  pub bads_has : g.counts.bads ≤ length g.bads
+  pub outputs_has : g.counts.outputs ≤ length g.outputs
 
--- the same, and the copy has room for the latch
-pub record FinishReady (constraints bads outputs latches2 bads2 outputs2 : List ℕ) (n : Counts) : Type 0 where
-  pub make : MakeReady constraints bads outputs n
-  pub latch : latch_words * (n.latches + 1) ≤ length latches2
-  pub bads_room : n.bads ≤ length bads2
-  pub outputs_room : n.outputs ≤ length outputs2
+-- the same, and the copy c has room for the latch
+pub record FinishReady (g c : Lent) : Type 0 where
+  pub make : MakeReady g
+  pub latch : latch_words * (g.counts.latches + 1) ≤ length c.latches
+  pub bads_room : g.counts.bads ≤ length c.bads
+  pub outputs_room : g.counts.outputs ≤ length c.outputs
 
 -- no answer is left
 pub record MoveReady (g out : Lent) : Type 0 where

@@ -1,41 +1,33 @@
 // A graph whose constraints are moved into a latch: it holds as long as they have, and the first bad and output count only while it does.
+// Memory is lent with room beyond the used entries, and a promise speaks of all that is lent: so how many are used stands beside a table.
 #![tactic(auto)]
 
 mod making;
 
 ghost use Rattle.std.specs.Prelude.{◌≡◌, ◌≤◌, true, length};
-ghost use Rattle.edge.specs.Edges.{constant_of};
+ghost use Rattle.edge.specs.Answers.{value_or};
 ghost use Rattle.rows.specs.Sizes.{max_entries};
-ghost use Rattle.graph.specs.Latches.{latch_set, latch};
-ghost use Rattle.graph.specs.Graph.{lent};
-ghost use Rattle.aig_move.specs.Making.{making_in};
-ghost use Rattle.aig_move.specs.Moving.{copy_counts, counts_with, moved_counts, first_set, moved};
+ghost use Rattle.graph.specs.Graph.{lent_of};
+ghost use Rattle.output.specs.Tables.{lent_in, SameLists};
+ghost use Rattle.aig_move.specs.Moving.{copy_counts, counts_with, moved_counts, first_set, finished, moved};
 ghost use Rattle.aig_move.specs.Steps.{FinishReady, MoveReady, move_checked};
 ghost use Rattle.renumber.specs.Seen.{rebuilt_seen};
 ghost use Rattle.renumber.specs.Steps.{found_seen};
 ghost use Rattle.aig_move.specs.Call.{move_call};
 
-use edge::Answer;
-use graph::Counts;
-use graph::latch::{LATCH_WORDS, latch_of, write_latch};
+use edge::Refusal;
+use graph::latch::{latch_of, write_latch};
+use graph::{Counts, Graph};
 use making::{count_rows, make};
-use output::{asked, copy_graph, fits};
-use renumber::Rebuilt;
+use output::{Tables, asked, fits};
 
 // The entries that are copied: all but the constraints.
 fn copy_counts(counts: Counts) -> Counts
     ensures { result ≡ copy_counts counts }
 {
     Counts {
-        rows: counts.rows,
-        inputs: counts.inputs,
-        latches: counts.latches,
         constraints: 0,
-        bads: counts.bads,
-        outputs: counts.outputs,
-        sets: counts.sets,
-        edges: counts.edges,
-        fairness: counts.fairness,
+        ..counts
     }
 }
 
@@ -46,14 +38,9 @@ fn counts_with(counts: Counts, rows: usize) -> Counts
 {
     Counts {
         rows,
-        inputs: counts.inputs,
         latches: counts.latches + 1,
         constraints: 0,
-        bads: counts.bads,
-        outputs: counts.outputs,
-        sets: counts.sets,
-        edges: counts.edges,
-        fairness: counts.fairness,
+        ..counts
     }
 }
 
@@ -68,222 +55,54 @@ fn replace_first(list: &mut [u32], n: usize, e: u32)
 }
 
 // Adds the latch to the copy, with its rows, and replaces the first bad and output.
-fn finish(
-    constraints: &[u32],
-    bads: &[u32],
-    outputs: &[u32],
-    counts: Counts,
-    rows2: &mut [u32],
-    latches2: &mut [u32],
-    bads2: &mut [u32],
-    outputs2: &mut [u32],
-)
-    requires { FinishReady constraints.now bads.now outputs.now latches2.old bads2.old outputs2.old counts }
-    ensures rows2_after { rows2.new ≡ (making_in rows2.old constraints.now bads.now outputs.now counts).rows }
-    ensures latches2_after { latches2.new ≡ latch_set latches2.old counts.latches (latch counts.rows (making_in rows2.old constraints.now bads.now outputs.now counts).next (constant_of true)) }
-    ensures bads2_after { bads2.new ≡ first_set bads2.old counts.bads (making_in rows2.old constraints.now bads.now outputs.now counts).bad }
-    ensures outputs2_after { outputs2.new ≡ first_set outputs2.old counts.outputs (making_in rows2.old constraints.now bads.now outputs.now counts).output }
+fn finish(graph: &Graph, tables: &mut Tables)
+    requires { FinishReady (lent_of graph.now) (lent_in tables.old (copy_counts graph.now.counts)) }
+    ensures same_lists { SameLists tables.new tables.old }
+    ensures finished { lent_in tables.new (moved_counts (lent_of graph.now)) ≡ finished (lent_of graph.now) (lent_in tables.old (copy_counts graph.now.counts)) }
 {
-    let made = make(rows2, constraints, bads, outputs, counts);
+    let counts = graph.counts;
+    let made = make(tables.rows, graph);
     let l = latch_of(counts.rows as u32, made.next, 1);
-    write_latch(latches2, counts.latches, l);
-    replace_first(bads2, counts.bads, made.bad);
-    replace_first(outputs2, counts.outputs, made.output);
+    write_latch(tables.latches, counts.latches, l);
+    replace_first(tables.bads, counts.bads, made.bad);
+    replace_first(tables.outputs, counts.outputs, made.output);
 }
 
-// Answers 1, 2, 3 and 5, where there is so much room for the output: no argument can be wrong. Where no answer is left, the counts are those of the result.
-fn checked(
-    rows: &[u32],
-    inputs: &[u32],
-    latches: &[u32],
-    constraints: &[u32],
-    bads: &[u32],
-    outputs: &[u32],
-    ends: &[u32],
-    edges: &[u32],
-    fairness: &[u32],
-    counts: Counts,
-    room: Counts,
-    marks: &mut [u32],
-) -> Rebuilt
-    ensures { found_seen result marks.new
-        ≡ move_checked
-        (lent rows.now inputs.now latches.now constraints.now bads.now outputs.now ends.now edges.now fairness.now counts)
-        room marks.old }
+// Answers 1, 2, 3 and 5, where there is so much room for the output: no argument can be wrong. Where no answer is left, the counts of the result.
+fn checked(graph: &Graph, room: Counts, marks: &mut [u32]) -> Result<Counts, Refusal>
+    ensures { found_seen graph.now.counts result marks.new ≡ move_checked (lent_of graph.now) room marks.old }
 {
-    let answer = asked(
-        rows,
-        inputs,
-        latches,
-        constraints,
-        bads,
-        outputs,
-        ends,
-        edges,
-        fairness,
-        counts,
-        true,
-        room,
-        marks,
-    );
-    if !edge::is_done(answer) {
-        return Rebuilt { answer, counts };
-    }
-    let need = counts_with(counts, count_rows(constraints, bads, outputs, counts));
-    if !fits(room, need) {
-        return Rebuilt {
-            answer: Answer::NoRoom,
-            counts,
-        };
-    }
-    Rebuilt {
-        answer,
-        counts: need,
+    asked(graph, true, room, marks)?;
+    let need = counts_with(graph.counts, count_rows(graph));
+    if fits(room, need) {
+        Ok(need)
+    } else {
+        Err(Refusal::NoRoom)
     }
 }
 
 // Writes the whole graph, where no answer is left.
-fn write(
-    rows: &[u32],
-    inputs: &[u32],
-    latches: &[u32],
-    constraints: &[u32],
-    bads: &[u32],
-    outputs: &[u32],
-    ends: &[u32],
-    edges: &[u32],
-    fairness: &[u32],
-    counts: Counts,
-    rows2: &mut [u32],
-    inputs2: &mut [u32],
-    latches2: &mut [u32],
-    constraints2: &mut [u32],
-    bads2: &mut [u32],
-    outputs2: &mut [u32],
-    ends2: &mut [u32],
-    edges2: &mut [u32],
-    fairness2: &mut [u32],
-)
-    requires { MoveReady (lent rows.now inputs.now latches.now constraints.now bads.now outputs.now ends.now edges.now fairness.now counts)
-        (lent rows2.old inputs2.old latches2.old constraints2.old bads2.old outputs2.old ends2.old edges2.old fairness2.old counts) }
-    ensures { lent rows2.new inputs2.new latches2.new constraints2.new bads2.new outputs2.new ends2.new edges2.new fairness2.new (moved_counts (lent rows.now inputs.now latches.now constraints.now bads.now outputs.now ends.now edges.now fairness.now counts))
-        ≡ moved
-        (lent rows.now inputs.now latches.now constraints.now bads.now outputs.now ends.now edges.now fairness.now counts)
-        (lent rows2.old inputs2.old latches2.old constraints2.old bads2.old outputs2.old ends2.old edges2.old fairness2.old counts) }
+fn write(graph: &Graph, tables: &mut Tables)
+    requires { MoveReady (lent_of graph.now) (lent_in tables.old graph.now.counts) }
+    ensures same_lists { SameLists tables.new tables.old }
+    ensures moved { lent_in tables.new (moved_counts (lent_of graph.now)) ≡ moved (lent_of graph.now) (lent_in tables.old graph.now.counts) }
 {
-    copy_graph(
-        rows,
-        inputs,
-        latches,
-        constraints,
-        bads,
-        outputs,
-        ends,
-        edges,
-        fairness,
-        copy_counts(counts),
-        rows2,
-        inputs2,
-        latches2,
-        constraints2,
-        bads2,
-        outputs2,
-        ends2,
-        edges2,
-        fairness2,
-    );
-    finish(
-        constraints,
-        bads,
-        outputs,
-        counts,
-        rows2,
-        latches2,
-        bads2,
-        outputs2,
-    );
+    let copied = Graph {
+        counts: copy_counts(graph.counts),
+        ..*graph
+    };
+    tables.copy(&copied);
+    finish(graph, tables);
 }
 
-// Writes a copy of the graph into the output's room, with its constraints in a new latch (init true): its next is the AND of itself and all constraints, and the first bad
+// Writes a copy of the graph into the tables, with its constraints in a new latch (init true): its next is the AND of itself and all constraints, and the first bad
 // and output are guarded by that next. The copy has no constraints. A refusal changes nothing but the marks.
-pub fn aig_move(
-    rows: &[u32],
-    inputs: &[u32],
-    latches: &[u32],
-    constraints: &[u32],
-    bads: &[u32],
-    outputs: &[u32],
-    ends: &[u32],
-    edges: &[u32],
-    fairness: &[u32],
-    counts: Counts,
-    rows2: &mut [u32],
-    inputs2: &mut [u32],
-    latches2: &mut [u32],
-    constraints2: &mut [u32],
-    bads2: &mut [u32],
-    outputs2: &mut [u32],
-    ends2: &mut [u32],
-    edges2: &mut [u32],
-    fairness2: &mut [u32],
-    marks: &mut [u32],
-) -> Rebuilt
-    ensures { rebuilt_seen result
-        (lent rows2.new inputs2.new latches2.new constraints2.new bads2.new outputs2.new ends2.new edges2.new fairness2.new result.counts)
-        marks.new
-        ≡ move_call
-        (lent rows.now inputs.now latches.now constraints.now bads.now outputs.now ends.now edges.now fairness.now counts)
-        (lent rows2.old inputs2.old latches2.old constraints2.old bads2.old outputs2.old ends2.old edges2.old fairness2.old counts)
-        marks.old }
+pub fn aig_move(graph: &Graph, tables: &mut Tables, marks: &mut [u32]) -> Result<Counts, Refusal>
+    ensures same_lists { SameLists tables.new tables.old }
+    ensures answer { rebuilt_seen result (lent_in tables.new (value_or graph.now.counts result)) marks.new
+        ≡ move_call (lent_of graph.now) (lent_in tables.old graph.now.counts) marks.old }
 {
-    let room = Counts {
-        rows: rows2.len() / 2,
-        inputs: inputs2.len(),
-        latches: latches2.len() / LATCH_WORDS,
-        constraints: constraints2.len(),
-        bads: bads2.len(),
-        outputs: outputs2.len(),
-        sets: ends2.len(),
-        edges: edges2.len(),
-        fairness: fairness2.len(),
-    };
-    let found = checked(
-        rows,
-        inputs,
-        latches,
-        constraints,
-        bads,
-        outputs,
-        ends,
-        edges,
-        fairness,
-        counts,
-        room,
-        marks,
-    );
-    let answer = found.answer;
-    if edge::is_done(answer) {
-        write(
-            rows,
-            inputs,
-            latches,
-            constraints,
-            bads,
-            outputs,
-            ends,
-            edges,
-            fairness,
-            counts,
-            rows2,
-            inputs2,
-            latches2,
-            constraints2,
-            bads2,
-            outputs2,
-            ends2,
-            edges2,
-            fairness2,
-        );
-    }
-    found
+    let counts = checked(graph, tables.room(), marks)?;
+    write(graph, tables);
+    Ok(counts)
 }

@@ -1,15 +1,18 @@
 // The rows of the new latch: the same steps count them and write them.
+// Memory is lent with room beyond the used entries, and a promise speaks of all that is lent: so how many are used stands beside a table.
 ghost use Rattle.std.specs.Prelude.{◌≡◌, [], ◌≤◌, ◌+◌, length};
 ghost use Rattle.rows.specs.Sizes.{max_rows, max_entries};
+ghost use Rattle.graph.specs.Graph.{lent_of};
 ghost use Rattle.gates.specs.Steps.{step_limit};
 ghost use Rattle.gates.specs.Gates.{state_of};
-ghost use Rattle.aig_move.specs.Making.{next_of, guard_of, making_of, making_in};
+ghost use Rattle.aig_move.specs.Making.{next_of, guard_of, making_of};
+ghost use Rattle.aig_move.specs.Moving.{making};
 ghost use Rattle.aig_move.specs.Steps.{making_seen};
 ghost use Rattle.aig_move.specs.Steps.{MakeReady};
 
 use gates::lists::add_list;
 use gates::{Grown, add_and, add_row};
-use graph::Counts;
+use graph::Graph;
 use rows::kinds::NONE;
 
 // How many rows are used, the latch's next, and the first bad and output by it.
@@ -37,10 +40,10 @@ fn add_guard(rows: &mut [u32], used: usize, next: u32, list: &[u32]) -> Grown
     requires { used ≤ step_limit }
     ensures { state_of rows.new result ≡ guard_of rows.old used next list.now }
 {
-    if list.len() == 0 {
-        return Grown { used, edge: 0 };
+    match list.first() {
+        None => Grown { used, edge: 0 },
+        Some(first) => add_and(rows, used, next, *first),
     }
-    add_and(rows, used, next, list[0])
 }
 
 fn make_rows(
@@ -65,35 +68,25 @@ fn make_rows(
     }
 }
 
-// The same of the entries that are counted.
-pub fn make(
-    rows: &mut [u32],
-    constraints: &[u32],
-    bads: &[u32],
-    outputs: &[u32],
-    counts: Counts,
-) -> Made
-    requires { MakeReady constraints.now bads.now outputs.now counts }
-    ensures { making_seen rows.new result ≡ making_in rows.old constraints.now bads.now outputs.now counts }
+// The same of the entries that the graph counts.
+pub fn make(rows: &mut [u32], graph: &Graph) -> Made
+    requires { MakeReady (lent_of graph.now) }
+    ensures { making_seen rows.new result ≡ making (lent_of graph.now) rows.old }
 {
-    let c = counts.constraints;
-    let b = counts.bads;
-    let o = counts.outputs;
+    let counts = graph.counts;
     make_rows(
         rows,
         counts.rows,
-        &constraints[..c],
-        &bads[..b],
-        &outputs[..o],
+        &graph.constraints[..counts.constraints],
+        &graph.bads[..counts.bads],
+        &graph.outputs[..counts.outputs],
     )
 }
 
 // How many rows are used afterwards: counted on no rows.
-pub fn count_rows(constraints: &[u32], bads: &[u32], outputs: &[u32], counts: Counts) -> usize
-    requires { MakeReady constraints.now bads.now outputs.now counts }
-    ensures { result ≡ (making_in [] constraints.now bads.now outputs.now counts).used }
+pub fn count_rows(graph: &Graph) -> usize
+    requires { MakeReady (lent_of graph.now) }
+    ensures { result ≡ (making (lent_of graph.now) []).used }
 {
-    let mut none = [0u32; 0];
-    let made = make(&mut none, constraints, bads, outputs, counts);
-    made.used
+    make(&mut [], graph).used
 }

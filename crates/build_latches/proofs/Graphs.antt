@@ -21,11 +21,11 @@ use Rattle.graph.specs.Graph.{Lent}
 use Rattle.graph.specs.WellFormed.{UsedLeaf, listed, WellFormed}
 use Rattle.graph.proofs.Latches.{latch_kept, latch_set_at, same_inputs}
 use Rattle.build_leaves.specs.Calls.{counted, left, call_of}
-use Rattle.build_leaves.specs.Leaves.{free_row}
+use Rattle.build_leaves.specs.Leaves.{free_row, entry_answer}
 use Rattle.build_leaves.proofs.Graphs.{NotIn, once_insert, not_in, taller_by_leaf, leaf_stays, new_leaf_lem, new_unlisted}
 use Rattle.build_latches.specs.Latches.{latch_answer, new_latch_call, add_latch_call}
 use Rattle.build_latches.specs.Graphs.{with_latches, LatchesStay}
-use Rattle.build_latches.proofs.Adding.{latch_fits, latch_told}
+use Rattle.build_leaves.proofs.Adding.{entry_told}
 
 -- ---- one more latch: its input a used leaf in neither list
 module _ (g : Lent) (w : WellFormed g) (x : ℕ) (leaf : UsedLeaf g x) (new : NotIn x (listed g)) where
@@ -108,26 +108,25 @@ module _ (g : Lent) (long : g.counts.inputs ≤ length g.inputs) (w : WellFormed
   n = g.counts
 
   new_latch_lem : (next init : ℕ) → (new_latch_call g.rows g.latches n next init).given.number ≡ 0 → WellFormed (with_latches g (new_latch_call g.rows g.latches n next init).left)
-  unfolding new_latch_call call_of counted
+  unfolding new_latch_call latch_answer call_of counted
   new_latch_lem next init z =
       let good = latch_edges n.rows (latch n.rows next init) in
-      let h = eq-eqb (latch_answer g.rows (latches_lent g.latches) n good (free_row g.rows n.rows)).number 0 z in
-      let t = latch_told g.rows n (latches_lent g.latches) good (free_row g.rows n.rows) z in
+      let free = free_row g.rows n.rows in
+      let h = eq-eqb (entry_answer g.rows n.rows n.latches (latches_lent g.latches) good free).number 0 z in
+      let t = entry_told g.rows n.rows n.latches (latches_lent g.latches) good free h in
       rw h
       (latch_stays (taller_by_leaf g long w t.0 t.2) (leaf_stays g long w t.0 t.2) n.rows (new_leaf_lem g long w t.0 t.2) (new_unlisted g long w t.0 t.2) next init
-      (omega (arith, (latch_fits g.rows (latches_lent g.latches) n good (free_row g.rows n.rows) h).entry)) (edges_later n.rows n.rows next init t.1))
+      (omega (arith, t.3)) (edges_later n.rows n.rows next init t.1))
 
   add_latch : (x next init : ℕ) → leaf_at g.rows x ≡ true → member x (listed g) ≡ false → (add_latch_call g.rows g.latches n x next init).given.number ≡ 0
       → WellFormed (with_latches g (add_latch_call g.rows g.latches n x next init).left)
-  unfolding add_latch_call call_of counted
+  unfolding add_latch_call latch_answer call_of counted
   add_latch x next init leaf new z =
       let good = ltb x n.rows && latch_edges n.rows (latch x next init) in
-      let h = eq-eqb (latch_answer g.rows (latches_lent g.latches) n good true).number 0 z in
-      let t = latch_told g.rows n (latches_lent g.latches) good true z in
+      let h = eq-eqb (entry_answer g.rows n.rows n.latches (latches_lent g.latches) good true).number 0 z in
+      let t = entry_told g.rows n.rows n.latches (latches_lent g.latches) good true h in
       let u = both {a = ltb x n.rows} {b = latch_edges n.rows (latch x next init)} t.1 in
-      rw h
-      (latch_stays g w x (ltb-true x n.rows u.0, leaf) (not_in x (listed g) new) next init
-      (omega (arith, (latch_fits g.rows (latches_lent g.latches) n good true h).entry)) u.1)
+      rw h (latch_stays g w x (ltb-true x n.rows u.0, leaf) (not_in x (listed g) new) next init (omega (arith, t.3)) u.1)
 
   pub latches_stay : LatchesStay g
   latches_stay = record { new_latch_lem = new_latch_lem; add_latch = add_latch }

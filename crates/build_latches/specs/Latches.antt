@@ -1,20 +1,19 @@
 -- Latches: each takes the next entry of the table.
 -- Assumes nothing.
-use Rattle.std.specs.Prelude.{ℕ, ◌+◌, ◌≡◌, List, Bool, true, ◌&&◌, ltb}
+use Rattle.std.specs.Prelude.{ℕ, ◌+◌, ◌≡◌, List, Bool, true, ◌&&◌, ltb, Result}
 use Rattle.edge.specs.declared.answer.Given.{Given}
-use Rattle.rows.specs.Sizes.{max_entries, fits, rows_fit}
+use Rattle.edge.specs.declared.answer.Refusal.{Refusal}
 use Rattle.graph.specs.declared.Counts.{Counts}
 use Rattle.graph.specs.Latches.{latch, latches_lent, latch_set}
 use Rattle.graph.specs.Leaves.{latch_edges}
 use Rattle.gates.specs.Gates.{leaf_added}
 use Rattle.build_leaves.specs.declared.calls.Added.{Added}
-use Rattle.build_leaves.specs.Calls.{constructor_answer, counted, left, Seen, call_of, added_seen, SameAdded, added_determined}
-use Rattle.build_leaves.specs.Leaves.{free_row}
+use Rattle.build_leaves.specs.Calls.{counted, left, Seen, call_of, added_seen, SameAdded, added_determined}
+use Rattle.build_leaves.specs.Leaves.{free_row, entry_answer}
 
 -- with so many latches lent
 unfoldable pub latch_answer : List ℕ → ℕ → Counts → Bool → Bool → Given
-latch_answer rows lent n good row =
-    constructor_answer (rows_fit n.rows rows && fits n.latches lent max_entries) good (row && ltb n.latches lent)
+latch_answer rows lent n good row = entry_answer rows n.rows n.latches lent good row
 
 -- "4 for an edge .. that is not used (the none word as init is no edge)": the new row is not used yet
 unfoldable pub new_latch_call : List ℕ → List ℕ → Counts → ℕ → ℕ → Seen
@@ -28,10 +27,10 @@ add_latch_call rows latches n input next init =
     (left rows (latch_set latches n.latches (latch input next init)) (counted n n.rows n.inputs (n.latches + 1)) input)
 
 -- ---- any two results that a promise allows are equal, call by call
-pub new_latch_determined : (rows latches : List ℕ) (n : Counts) (next init : ℕ) (r s : Added) (x y v w : List ℕ) → added_seen r x v ≡ new_latch_call rows latches n next init
-    → added_seen s y w ≡ new_latch_call rows latches n next init → SameAdded r x v s y w
-new_latch_determined rows latches n next = added_determined (new_latch_call rows latches n next)
+pub new_latch_determined : (rows latches : List ℕ) (n : Counts) (next init : ℕ) (r s : Result Added Refusal) (x y v w : List ℕ)
+    → added_seen n r x v ≡ new_latch_call rows latches n next init → added_seen n s y w ≡ new_latch_call rows latches n next init → SameAdded r x v s y w
+new_latch_determined rows latches n next init = added_determined (new_latch_call rows latches n next) init n
 
-pub add_latch_determined : (rows latches : List ℕ) (n : Counts) (id next init : ℕ) (r s : Added) (x y v w : List ℕ) → added_seen r x v ≡ add_latch_call rows latches n id next init
-    → added_seen s y w ≡ add_latch_call rows latches n id next init → SameAdded r x v s y w
-add_latch_determined rows latches n id next = added_determined (add_latch_call rows latches n id next)
+pub add_latch_determined : (rows latches : List ℕ) (n : Counts) (id next init : ℕ) (r s : Result Added Refusal) (x y v w : List ℕ)
+    → added_seen n r x v ≡ add_latch_call rows latches n id next init → added_seen n s y w ≡ add_latch_call rows latches n id next init → SameAdded r x v s y w
+add_latch_determined rows latches n id next init = added_determined (add_latch_call rows latches n id next) init n

@@ -23,13 +23,13 @@ use Rattle.graph.specs.WellFormed.{UsedLeaf, listed, WellFormed}
 use Rattle.graph.proofs.Listed.{all_long, input_at, latch_at_lem}
 use Rattle.build_leaves.specs.Calls.{constructor_answer, counted, left, call_of}
 use Rattle.gates.specs.Gates.{State, leaf_added}
-use Rattle.build_leaves.specs.Leaves.{new_call, free_row, leaf_answer, leaf_call, input_answer, new_input_call, add_input_call}
+use Rattle.build_leaves.specs.Leaves.{new_call, free_row, leaf_answer, leaf_call, entry_answer, input_answer, new_input_call, add_input_call}
 use Rattle.gates.specs.Meaning.{Grows}
 use Rattle.build_leaves.specs.Graphs.{with_rows, with_inputs, Fresh, LeavesStay}
 use Rattle.build_leaves.proofs.Answering.{all_three}
-use Rattle.build_leaves.proofs.Adding.{input_fits}
+use Rattle.build_leaves.proofs.Adding.{entry_told}
 use Rattle.build_leaves.proofs.Keeping.{keeps}
-use Rattle.build_leaves.proofs.Meaning.{first_good, leaf_grows, leaf_made, leaf_told, input_told}
+use Rattle.build_leaves.proofs.Meaning.{first_good, leaf_grows, leaf_made, leaf_told}
 
 -- ---- one more entry in a list without doubles
 abbrev pub Once : List ℕ → Type 0
@@ -198,24 +198,21 @@ module _ (g : Lent) (long : g.counts.inputs ≤ length g.inputs) (w : WellFormed
     new_unlisted j l e = let h = listed_used j l in omega arith
 
   new_input : (new_input_call g.rows g.inputs n).given.number ≡ 0 → WellFormed (with_inputs g (new_input_call g.rows g.inputs n).left)
-  unfolding new_input_call call_of counted
+  unfolding new_input_call input_answer call_of counted
   new_input z =
-      let a = input_answer g.rows g.inputs n true (free_row g.rows n.rows) in
-      let h = eq-eqb a.number 0 z in
-      let t = input_told g.rows n g.inputs true (free_row g.rows n.rows) z in
+      let free = free_row g.rows n.rows in
+      let h = eq-eqb (entry_answer g.rows n.rows n.inputs (length g.inputs) true free).number 0 z in
+      let t = entry_told g.rows n.rows n.inputs (length g.inputs) true free h in
       rw h
-      (input_stays (taller_by_leaf t.0 t.2) (leaf_stays t.0 t.2) n.rows (new_leaf_lem t.0 t.2) (new_unlisted t.0 t.2)
-      (input_fits g.rows g.inputs n true (free_row g.rows n.rows) h).entry)
+      (input_stays (taller_by_leaf t.0 t.2) (leaf_stays t.0 t.2) n.rows (new_leaf_lem t.0 t.2) (new_unlisted t.0 t.2) (omega (arith, t.3)))
 
   add_input : (x : ℕ) → leaf_at g.rows x ≡ true → member x (listed g) ≡ false → (add_input_call g.rows g.inputs n x).given.number ≡ 0
       → WellFormed (with_inputs g (add_input_call g.rows g.inputs n x).left)
-  unfolding add_input_call call_of counted
+  unfolding add_input_call input_answer call_of counted
   add_input x leaf new z =
-      let h = eq-eqb (input_answer g.rows g.inputs n (ltb x n.rows) true).number 0 z in
-      let t = input_told g.rows n g.inputs (ltb x n.rows) true z in
-      rw h
-      (input_stays g w x (ltb-true x n.rows t.1, leaf) (not_in x (listed g) new)
-      (input_fits g.rows g.inputs n (ltb x n.rows) true h).entry)
+      let h = eq-eqb (entry_answer g.rows n.rows n.inputs (length g.inputs) (ltb x n.rows) true).number 0 z in
+      let t = entry_told g.rows n.rows n.inputs (length g.inputs) (ltb x n.rows) true h in
+      rw h (input_stays g w x (ltb-true x n.rows t.1, leaf) (not_in x (listed g) new) (omega (arith, t.3)))
 
   leaf_call_lem : (leaf_call g.rows n).given.number ≡ 0 → WellFormed (with_rows g (leaf_call g.rows n).left)
   unfolding leaf_call call_of

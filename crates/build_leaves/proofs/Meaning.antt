@@ -3,14 +3,13 @@
 use Prim.Native.Nat.{ℕ, ◌+◌, ◌*◌, ◌≤◌, ◌<◌}
 use native.Mathlib.Omega.{arith}
 use mathlib.Core.Path.{◌≡◌, refl}
-use mathlib.Core.Bool.{Bool, true, ◌&&◌}
+use mathlib.Core.Bool.{true}
 use mathlib.Core.List.{List, []}
 use lib.ListN.{length}
 use lib.Dec.{ltb, leb}
 use borrow.Author.Tests.{ltb-true, eq-eqb}
 use Rattle.edge.specs.declared.answer.Given.{Given}
-use Rattle.edge.proofs.Tests.{both}
-use Rattle.rows.specs.Sizes.{max_rows, max_entries, fits, rows_lent, rows_fit}
+use Rattle.rows.specs.Sizes.{max_rows, rows_lent, rows_fit}
 use Rattle.rows.specs.Rows.{word0, word1, false_word, none, is_false_row, is_row, leaf_at, AllRows}
 use Rattle.rows.proofs.Laws.{rows_fit_lem}
 use Rattle.rows.proofs.Value.{value_leaf}
@@ -21,6 +20,7 @@ use Rattle.build_leaves.specs.Leaves.{new_call, free_row, leaf_answer, leaf_call
 use Rattle.gates.specs.Meaning.{Grows}
 use Rattle.build_leaves.specs.Meaning.{IsLeaf, Leaves}
 use Rattle.build_leaves.proofs.Answering.{all_three}
+use Rattle.build_leaves.proofs.Adding.{entry_told}
 use Rattle.gates.proofs.Growing.{leaf_here, leaf_row, row_first, row_second, row_grows}
 use Rattle.build_leaves.proofs.Keeping.{keeps}
 
@@ -74,12 +74,6 @@ module _ (rows : List ℕ) (n : Counts) where
   unfolding leaf_answer
   leaf_told z = let t = all_three (rows_fit n.rows rows) true (free_row rows n.rows) (eq-eqb _ 0 z) in (t.0, t.2)
 
-  pub input_told : (inputs : List ℕ) (good row : Bool) → (input_answer rows inputs n good row).number ≡ 0 → (rows_fit n.rows rows ≡ true) × (good ≡ true) × (row ≡ true)
-  unfolding input_answer
-  input_told inputs good row z =
-      let t = all_three (rows_fit n.rows rows && fits n.inputs (length inputs) max_entries) good (row && ltb n.inputs (length inputs)) (eq-eqb _ 0 z) in
-      ((both {a = rows_fit n.rows rows} {b = fits n.inputs (length inputs) max_entries} t.0).0, t.1, (both {a = row} {b = ltb n.inputs (length inputs)} t.2).0)
-
   first : (new_call rows).given.number ≡ 0 → AllRows (new_call rows).left.rows 1
   unfolding new_call call_of
   first z =
@@ -88,10 +82,10 @@ module _ (rows : List ℕ) (n : Counts) where
       rw h (first_good rows (ltb-true 0 (rows_lent rows) t.2))
 
   pub leaves : Leaves rows n
-  unfolding leaf_call new_input_call
+  unfolding leaf_call new_input_call input_answer
   leaves =
       record {
         first = first;
         leaf = went rows [] n n.inputs n.latches (leaf_answer rows n.rows) [] leaf_told;
-        input = λ inputs. went rows inputs n (n.inputs + 1) n.latches _ _ (λ z. let t = input_told inputs true (free_row rows n.rows) z in (t.0, t.2));
+        input = λ inputs. went rows inputs n (n.inputs + 1) n.latches _ _ (λ z. let t = entry_told rows n.rows n.inputs (length inputs) true (free_row rows n.rows) (eq-eqb _ 0 z) in (t.0, t.2));
       }

@@ -1,9 +1,10 @@
 -- What every constructor answers, and what it leaves.
 -- Assumes nothing.
-use Rattle.std.specs.Prelude.{ℕ, ◌≡◌, List, [], Bool, cond, eqb}
-use Rattle.std.proofs.Common.{ap}
+use Rattle.std.specs.Prelude.{ℕ, ◌≡◌, List, [], Bool, cond, eqb, Result}
+use Rattle.std.proofs.Common.{ap, ap₂}
 use Rattle.edge.specs.declared.answer.Given.{Given}
-use Rattle.edge.specs.Answers.{done, bad_sizes, bad_argument, no_room, told, told_injective, determined}
+use Rattle.edge.specs.declared.answer.Refusal.{Refusal}
+use Rattle.edge.specs.Answers.{done, bad_sizes, bad_argument, no_room, told, value_or, answer_known, determined}
 use Rattle.graph.specs.declared.Counts.{Counts}
 use Rattle.build_leaves.specs.declared.calls.Built.{Built}
 use Rattle.build_leaves.specs.declared.calls.Added.{Added}
@@ -46,35 +47,46 @@ pub record Seen : Type 0 where
 unfoldable pub call_of : Given → List ℕ → List ℕ → Counts → Left → Seen
 call_of g rows list counts after = record { given = g; left = cond (eqb g.number 0) after (left rows list counts 0) }
 
--- a call that makes an edge is lent no list
-abbrev pub built_seen : Built → List ℕ → Seen
-built_seen r rows = record { given = told r.answer; left = left rows [] r.counts r.edge }
+-- what comes with an answer: on a refusal the counts are as given, and nothing is made
+abbrev pub built : Counts → ℕ → Built
+built counts edge = record { counts = counts; edge = edge }
 
-abbrev pub added_seen : Added → List ℕ → List ℕ → Seen
-added_seen r rows list = record { given = told r.answer; left = left rows list r.counts r.id }
+abbrev pub added : Counts → ℕ → Added
+added counts id = record { counts = counts; id = id }
+
+abbrev pub built_or : Counts → Result Built Refusal → Built
+built_or n r = value_or (built n 0) r
+
+abbrev pub added_or : Counts → Result Added Refusal → Added
+added_or n r = value_or (added n 0) r
+
+-- a call is given counts; one that makes an edge is lent no list
+abbrev pub built_seen : Counts → Result Built Refusal → List ℕ → Seen
+built_seen n r rows = record { given = told r; left = left rows [] (built_or n r).counts (built_or n r).edge }
+
+abbrev pub added_seen : Counts → Result Added Refusal → List ℕ → List ℕ → Seen
+added_seen n r rows list = record { given = told r; left = left rows list (added_or n r).counts (added_or n r).id }
 
 -- ---- any two results that a promise allows are equal: here for any call, and beside each definition for its own
-abbrev pub SameBuilt : Built → List ℕ → Built → List ℕ → Type 0
-SameBuilt r x s y = (r.answer ≡ s.answer) × (x ≡ y) × (r.counts ≡ s.counts) × (r.edge ≡ s.edge)
+abbrev pub SameBuilt : Result Built Refusal → List ℕ → Result Built Refusal → List ℕ → Type 0
+SameBuilt r x s y = (r ≡ s) × (x ≡ y)
 
-abbrev pub SameAdded : Added → List ℕ → List ℕ → Added → List ℕ → List ℕ → Type 0
-SameAdded r x v s y w = (r.answer ≡ s.answer) × (x ≡ y) × (v ≡ w) × (r.counts ≡ s.counts) × (r.id ≡ s.id)
+abbrev pub SameAdded : Result Added Refusal → List ℕ → List ℕ → Result Added Refusal → List ℕ → List ℕ → Type 0
+SameAdded r x v s y w = (r ≡ s) × (x ≡ y) × (v ≡ w)
 
-pub built_determined : {L : Type 0} (call : L → Seen) (l : L) (r s : Built) (x y : List ℕ) → built_seen r x ≡ call l → built_seen s y ≡ call l → SameBuilt r x s y
-built_determined call l r s x y p q =
-    let t = determined call l (built_seen r x) (built_seen s y) p q in (
-      told_injective r.answer s.answer (ap (λ (z : Seen). z.given) t),
+pub built_determined : {L : Type 0} (call : L → Seen) (l : L) (n : Counts) (r s : Result Built Refusal) (x y : List ℕ) → built_seen n r x ≡ call l → built_seen n s y ≡ call l
+    → SameBuilt r x s y
+built_determined call l n r s x y p q =
+    let t = determined call l (built_seen n r x) (built_seen n s y) p q in (
+      answer_known (built n 0) r s (ap (λ (z : Seen). z.given) t) (ap₂ built (ap (λ (z : Seen). z.left.counts) t) (ap (λ (z : Seen). z.left.made) t)),
       ap (λ (z : Seen). z.left.rows) t,
-      ap (λ (z : Seen). z.left.counts) t,
-      ap (λ (z : Seen). z.left.made) t,
     )
 
-pub added_determined : {L : Type 0} (call : L → Seen) (l : L) (r s : Added) (x y v w : List ℕ) → added_seen r x v ≡ call l → added_seen s y w ≡ call l → SameAdded r x v s y w
-added_determined call l r s x y v w p q =
-    let t = determined call l (added_seen r x v) (added_seen s y w) p q in (
-      told_injective r.answer s.answer (ap (λ (z : Seen). z.given) t),
+pub added_determined : {L : Type 0} (call : L → Seen) (l : L) (n : Counts) (r s : Result Added Refusal) (x y v w : List ℕ) → added_seen n r x v ≡ call l → added_seen n s y w ≡ call l
+    → SameAdded r x v s y w
+added_determined call l n r s x y v w p q =
+    let t = determined call l (added_seen n r x v) (added_seen n s y w) p q in (
+      answer_known (added n 0) r s (ap (λ (z : Seen). z.given) t) (ap₂ added (ap (λ (z : Seen). z.left.counts) t) (ap (λ (z : Seen). z.left.made) t)),
       ap (λ (z : Seen). z.left.rows) t,
       ap (λ (z : Seen). z.left.list) t,
-      ap (λ (z : Seen). z.left.counts) t,
-      ap (λ (z : Seen). z.left.made) t,
     )

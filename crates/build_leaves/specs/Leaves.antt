@@ -1,7 +1,8 @@
 -- The first row, leaves and inputs.
 -- Assumes nothing.
-use Rattle.std.specs.Prelude.{ℕ, ◌+◌, ◌≡◌, List, [], Bool, true, ◌&&◌, length, set, ltb, leb}
+use Rattle.std.specs.Prelude.{ℕ, ◌+◌, ◌≡◌, List, [], Bool, true, ◌&&◌, length, set, ltb, leb, Result}
 use Rattle.edge.specs.declared.answer.Given.{Given}
+use Rattle.edge.specs.declared.answer.Refusal.{Refusal}
 use Rattle.rows.specs.Sizes.{max_rows, max_entries, fits, rows_lent, rows_fit}
 use Rattle.graph.specs.declared.Counts.{Counts}
 use Rattle.graph.specs.Graph.{no_counts}
@@ -28,11 +29,15 @@ leaf_call rows n =
     call_of (leaf_answer rows n.rows) rows [] n
     (left (leaf_added rows n.rows) [] (counted n (n.rows + 1) n.inputs n.latches) n.rows)
 
--- ---- inputs: each takes the next entry of the list
+-- ---- calls that take the next entry of a list, of which n of so many entries are used
 -- where the argument is `good`, and `row` says that a row is free or that none is needed
+abbrev pub entry_answer : List ℕ → ℕ → ℕ → ℕ → Bool → Bool → Given
+entry_answer rows used n lent good row =
+    constructor_answer (rows_fit used rows && fits n lent max_entries) good (row && ltb n lent)
+
+-- ---- inputs
 unfoldable pub input_answer : List ℕ → List ℕ → Counts → Bool → Bool → Given
-input_answer rows inputs n good row =
-    constructor_answer (rows_fit n.rows rows && fits n.inputs (length inputs) max_entries) good (row && ltb n.inputs (length inputs))
+input_answer rows inputs n good row = entry_answer rows n.rows n.inputs (length inputs) good row
 
 -- a new leaf, listed
 unfoldable pub new_input_call : List ℕ → List ℕ → Counts → Seen
@@ -47,17 +52,17 @@ add_input_call rows inputs n input =
     (left rows (set inputs n.inputs input) (counted n n.rows (n.inputs + 1) n.latches) input)
 
 -- ---- any two results that a promise allows are equal, call by call
-pub new_determined : (rows : List ℕ) (r s : Built) (x y : List ℕ) → built_seen r x ≡ new_call rows → built_seen s y ≡ new_call rows → SameBuilt r x s y
-new_determined = built_determined new_call
+pub new_determined : (rows : List ℕ) (r s : Result Built Refusal) (x y : List ℕ) → built_seen no_counts r x ≡ new_call rows → built_seen no_counts s y ≡ new_call rows → SameBuilt r x s y
+new_determined rows = built_determined new_call rows no_counts
 
-pub leaf_determined : (rows : List ℕ) (n : Counts) (r s : Added) (x y v w : List ℕ) → added_seen r x v ≡ leaf_call rows n → added_seen s y w ≡ leaf_call rows n
+pub leaf_determined : (rows : List ℕ) (n : Counts) (r s : Result Added Refusal) (x y v w : List ℕ) → added_seen n r x v ≡ leaf_call rows n → added_seen n s y w ≡ leaf_call rows n
     → SameAdded r x v s y w
-leaf_determined rows = added_determined (leaf_call rows)
+leaf_determined rows n = added_determined (leaf_call rows) n n
 
-pub new_input_determined : (rows inputs : List ℕ) (n : Counts) (r s : Added) (x y v w : List ℕ) → added_seen r x v ≡ new_input_call rows inputs n
-    → added_seen s y w ≡ new_input_call rows inputs n → SameAdded r x v s y w
-new_input_determined rows inputs = added_determined (new_input_call rows inputs)
+pub new_input_determined : (rows inputs : List ℕ) (n : Counts) (r s : Result Added Refusal) (x y v w : List ℕ) → added_seen n r x v ≡ new_input_call rows inputs n
+    → added_seen n s y w ≡ new_input_call rows inputs n → SameAdded r x v s y w
+new_input_determined rows inputs n = added_determined (new_input_call rows inputs) n n
 
-pub add_input_determined : (rows inputs : List ℕ) (n : Counts) (id : ℕ) (r s : Added) (x y v w : List ℕ) → added_seen r x v ≡ add_input_call rows inputs n id
-    → added_seen s y w ≡ add_input_call rows inputs n id → SameAdded r x v s y w
-add_input_determined rows inputs n = added_determined (add_input_call rows inputs n)
+pub add_input_determined : (rows inputs : List ℕ) (n : Counts) (id : ℕ) (r s : Result Added Refusal) (x y v w : List ℕ) → added_seen n r x v ≡ add_input_call rows inputs n id
+    → added_seen n s y w ≡ add_input_call rows inputs n id → SameAdded r x v s y w
+add_input_determined rows inputs n id = added_determined (add_input_call rows inputs n) id n

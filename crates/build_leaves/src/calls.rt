@@ -1,97 +1,62 @@
 // What a constructor answers, with the counts that come back by value.
-ghost use Rattle.std.specs.Prelude.{◌≡◌};
+// Memory is lent with room beyond the used entries, and a promise speaks of all that is lent: so how many are used stands beside a table.
+ghost use Rattle.std.specs.Prelude.{◌≡◌, ◌≤◌, ◌<◌, IsOk};
 ghost use Rattle.edge.specs.Answers.{told};
-ghost use Rattle.build_leaves.specs.Calls.{constructor_answer, counted};
-ghost use Rattle.build_leaves.specs.Leaves.{free_row};
+ghost use Rattle.rows.specs.Sizes.{max_rows};
+ghost use Rattle.build_leaves.specs.Calls.{constructor_answer};
+ghost use Rattle.build_leaves.specs.Leaves.{free_row, entry_answer};
 
-use edge::Answer;
+use edge::Refusal;
 use graph::Counts;
+use rows::sizes::{MAX_ENTRIES, fits, rows_fit};
 
-// The edge that was built. On a refusal the counts are as given and the edge is 0.
+// The edge that was built, with the counts after it.
 #[derive(Clone, Copy)]
 pub struct Built {
-    pub answer: Answer,
     pub counts: Counts,
     pub edge: u32,
 }
 
-// The leaf that was made or listed. On a refusal the counts are as given and the id is 0.
+// The leaf that was made or listed, with the counts after it. Not one type with `Built`: an id is no edge, and an edge's complement is lost by the one who takes it for an id.
 #[derive(Clone, Copy)]
 pub struct Added {
-    pub answer: Answer,
     pub counts: Counts,
     pub id: u32,
 }
 
 // 1, then 4, then 5.
-pub fn answered(sizes: bool, good: bool, room: bool) -> Answer
+pub fn answered(sizes: bool, good: bool, room: bool) -> Result<(), Refusal>
     ensures { told result ≡ constructor_answer sizes good room }
 {
     if !sizes {
-        return Answer::BadSizes;
+        return Err(Refusal::BadSizes);
     }
     if !good {
-        return Answer::BadArgument;
+        return Err(Refusal::BadArgument);
     }
     if !room {
-        return Answer::NoRoom;
+        return Err(Refusal::NoRoom);
     }
-    Answer::Done
+    Ok(())
 }
 
-// The counts with those that a constructor may raise set anew.
-pub fn counted(counts: Counts, rows: usize, inputs: usize, latches: usize) -> Counts
-    ensures { result ≡ counted counts rows inputs latches }
+// What a constructor answers that takes the next entry of a list, of which n of so many entries are used: `row` says that a row is free, or that none is needed.
+pub fn entry_answer(
+    rows: &[u32],
+    used: usize,
+    n: usize,
+    lent: usize,
+    good: bool,
+    row: bool,
+) -> Result<(), Refusal>
+    ensures answer { told result ≡ entry_answer rows.now used n lent good row }
+    ensures room { IsOk result → (used ≤ max_rows) × (n < lent) }
 {
-    Counts {
-        rows,
-        inputs,
-        latches,
-        constraints: counts.constraints,
-        bads: counts.bads,
-        outputs: counts.outputs,
-        sets: counts.sets,
-        edges: counts.edges,
-        fairness: counts.fairness,
-    }
-}
-
-pub fn refused(answer: Answer, counts: Counts) -> Built
-    ensures { (result.answer ≡ answer) × (result.counts ≡ counts) × (result.edge ≡ 0) }
-{
-    Built {
-        answer,
-        counts,
-        edge: 0,
-    }
-}
-
-pub fn not_added(answer: Answer, counts: Counts) -> Added
-    ensures { (result.answer ≡ answer) × (result.counts ≡ counts) × (result.id ≡ 0) }
-{
-    Added {
-        answer,
-        counts,
-        id: 0,
-    }
-}
-
-// What is answered where a leaf was made or listed.
-pub fn was_added(
-    answer: Answer,
-    counts: Counts,
-    rows: usize,
-    inputs: usize,
-    latches: usize,
-    id: u32,
-) -> Added
-    ensures { (result.answer ≡ answer) × (result.counts ≡ counted counts rows inputs latches) × (result.id ≡ id) }
-{
-    Added {
-        answer,
-        counts: counted(counts, rows, inputs, latches),
-        id,
-    }
+    answered(
+        rows_fit(used, rows) & fits(n, lent, MAX_ENTRIES),
+        good,
+        row & (n < lent),
+    )
 }
 
 // Is there a row after the used ones?

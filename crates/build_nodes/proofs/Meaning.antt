@@ -3,7 +3,7 @@
 use Prim.Native.Nat.{ℕ, ◌≤◌, ◌<◌}
 use native.Mathlib.Omega.{arith}
 use mathlib.Core.Path.{◌≡◌, refl, ap, ◌∙◌}
-use mathlib.Core.Bool.{Bool, true, false, cond, not, ◌&&◌, ◌||◌}
+use mathlib.Core.Bool.{Bool, true, false, cond, not, ◌&&◌, ◌||◌, and-true, or-false}
 use mathlib.Core.List.{List, [], ◌∷◌}
 use lib.ListN.{length, get_or}
 use lib.Dec.{leb}
@@ -25,10 +25,9 @@ use Rattle.build_leaves.proofs.Answering.{all_three}
 use Rattle.build_leaves.proofs.Keeping.{keeps}
 use Rattle.gates.specs.Meaning.{Grows, AllUsed, all_true, any_true}
 use Rattle.gates.proofs.Growing.{list_grows, eq_grows}
-use Rattle.gates.proofs.Meaning.{list_true, list_value, eq_value, and_true}
-use Rattle.graph.specs.declared.search.Found.{Found}
-use Rattle.graph.specs.declared.search.Found.TheVariants.{At, Nothing}
-use Rattle.graph.specs.Search.{first_bad, nothing_found}
+use Rattle.gates.proofs.Meaning.{list_true, list_value, eq_value}
+use Rattle.std.specs.Prelude.{Option, Some, None, is_none}
+use Rattle.graph.specs.Search.{first_bad}
 use Rattle.graph.specs.Leaves.{good_edge}
 use Rattle.graph.proofs.Searching.{all_good}
 
@@ -37,9 +36,9 @@ pub all_used_lem : (used : ℕ) (es : List ℕ) → all_used used es ≡ true �
 unfolding all_used
 all_used_lem used es = go (first_bad (good_edge used es) 0 (length es)) refl
   where
-    go : (f : Found) → first_bad (good_edge used es) 0 (length es) ≡ f → nothing_found f ≡ true → AllUsed used es
-    go (At i) e h = absurd (false_true h)
-    go Nothing e h = λ j l. ltb-true (id_of (get_or es j 0)) used (all_good (good_edge used es) (length es) 0 e j (omega arith) (omega arith))
+    go : (f : Option ℕ) → first_bad (good_edge used es) 0 (length es) ≡ f → is_none f ≡ true → AllUsed used es
+    go (Some i) e h = absurd (false_true h)
+    go None e h = λ j l. ltb-true (id_of (get_or es j 0)) used (all_good (good_edge used es) (length es) 0 e j (omega arith) (omega arith))
 
 -- ---- the calls
 module _ (rows : List ℕ) (n : Counts) (es : List ℕ) (s : State) where
@@ -92,15 +91,11 @@ module _ (rows : List ℕ) (n : Counts) where
 
   two_and : (a b : ℕ) (v : ℕ → Bool) → list_true false (edge_value v) (a ∷ (b ∷ [])) ≡ edge_value v a && edge_value v b
   unfolding all_true
-  two_and a b v = ap (λ (x : Bool). edge_value v a && x) (and_true (edge_value v b))
+  two_and a b v = ap (λ (x : Bool). edge_value v a && x) (and-true (edge_value v b))
 
   two_or : (a b : ℕ) (v : ℕ → Bool) → list_true true (edge_value v) (a ∷ (b ∷ [])) ≡ edge_value v a || edge_value v b
   unfolding any_true
-  two_or a b v = ap (λ (x : Bool). edge_value v a || x) (or_false (edge_value v b))
-    where
-      or_false : (x : Bool) → x || false ≡ x
-      or_false true = refl
-      or_false false = refl
+  two_or a b v = ap (λ (x : Bool). edge_value v a || x) (or-false (edge_value v b))
 
   pub nodes : Nodes rows n
   nodes =

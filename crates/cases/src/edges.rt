@@ -1,47 +1,23 @@
 // The calls on edges, 1 to 11.
-use crate::arguments::{truth, word};
-use crate::outcome::{Outcome, of_bool_answer, of_edge_answer, of_truth, of_word, unknown};
-use edge::MaybeConstant;
+use crate::case::Case;
+use crate::outcome::Outcome;
 
-pub fn run(call: u64, scalars: &[u64], map: &[u32]) -> Outcome {
-    if call < 7 {
-        return made(call, scalars);
-    }
-    asked(call, scalars, map)
-}
-
-// The calls that make an edge or take one apart.
-fn made(call: u64, scalars: &[u64]) -> Outcome {
-    let e = word(scalars, 0);
-    let flag = truth(scalars, 1);
-    match call {
-        1 => of_edge_answer(edge::new(e, flag)),
-        2 => of_word(edge::node_id(e)),
-        3 => of_truth(edge::compl(e)),
-        4 => of_word(edge::not(e)),
-        5 => of_word(edge::not_if(e, flag)),
-        6 => of_word(edge::constant(truth(scalars, 0))),
-        _ => unknown(),
-    }
-}
-
-// The calls that ask for a constant, and the map.
-fn asked(call: u64, scalars: &[u64], map: &[u32]) -> Outcome {
-    let e = word(scalars, 0);
-    match call {
-        7 => of_truth(edge::is_const(e)),
-        8 => of_truth(edge::is_constant(e, truth(scalars, 1))),
-        9 => of_word(code(edge::try_to_constant(e))),
-        10 => of_bool_answer(edge::to_constant(e)),
-        11 => of_edge_answer(edge::map(e, map)),
-        _ => unknown(),
-    }
-}
-
-fn code(m: MaybeConstant) -> u32 {
-    match m {
-        MaybeConstant::False => 0,
-        MaybeConstant::True => 1,
-        MaybeConstant::Neither => 2,
-    }
+pub fn run(case: &Case, map: &[u32]) -> Option<Outcome> {
+    let e = case.word(0);
+    let flag = case.truth(1);
+    let outcome = match case.call {
+        1 => Outcome::of(edge::new(e, flag), 0),
+        2 => Outcome::done(edge::node_id(e)),
+        3 => Outcome::done(edge::compl(e)),
+        4 => Outcome::done(edge::not(e)),
+        5 => Outcome::done(edge::not_if(e, flag)),
+        6 => Outcome::done(edge::constant(case.truth(0))),
+        7 => Outcome::done(edge::is_const(e)),
+        8 => Outcome::done(edge::is_constant(e, flag)),
+        9 => Outcome::done(edge::try_to_constant(e)),
+        10 => Outcome::of(edge::to_constant(e), false),
+        11 => Outcome::of(edge::map(e, map), 0),
+        _ => return None,
+    };
+    Some(outcome)
 }

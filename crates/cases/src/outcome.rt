@@ -1,96 +1,149 @@
 // What a call leaves beside the slices: its answer and its results.
-use edge::{Answer, BoolAnswer, EdgeAnswer, Given};
+use build_leaves::{Added, Built};
+use edge::{Given, Refusal, told};
 use graph::Counts;
+use std::fmt;
 
-// `is_known` is false where there is no such call, or the case does not fit the arrays that the call writes to. Only the first `count`
-// results are the call's.
 #[derive(Clone, Copy)]
 pub struct Outcome {
-    pub is_known: bool,
-    pub answer: Given,
-    pub count: usize,
-    pub results: [u64; 12],
+    answer: Given,
+    results: Results,
 }
 
-pub fn unknown() -> Outcome {
-    Outcome {
-        is_known: false,
-        answer: edge::told(Answer::Done),
-        count: 0,
-        results: [0; 12],
+// Counts stand for nine results.
+#[derive(Clone, Copy)]
+pub enum Results {
+    Nothing,
+    One(u64),
+    Two(u64, u64),
+    Counts(Counts),
+    CountsAnd(Counts, u64),
+}
+
+impl Outcome {
+    // What a call answers, and what its results are where it is refused.
+    pub fn of<T: Into<Results> + Drop>(answer: Result<T, Refusal>, refused: T) -> Outcome {
+        match answer {
+            Ok(value) => Outcome::done(value),
+            Err(refusal) => Outcome {
+                answer: Given::from(refusal),
+                results: refused.into(),
+            },
+        }
+    }
+
+    // What a call that is not refused leaves.
+    pub fn done<T: Into<Results>>(value: T) -> Outcome {
+        Outcome {
+            answer: told(Ok(())),
+            results: value.into(),
+        }
     }
 }
 
-// An answer with no result.
-pub fn of_answer(a: Answer) -> Outcome {
-    of_pair(a, 0, 0, 0)
-}
-
-pub fn of_edge_answer(r: EdgeAnswer) -> Outcome {
-    let a = r.answer;
-    of_pair(a, 1, r.edge, 0)
-}
-
-pub fn of_bool_answer(r: BoolAnswer) -> Outcome {
-    let a = r.answer;
-    of_pair(a, 1, r.value as u32, 0)
-}
-
-// A result of a call that cannot be refused.
-pub fn of_word(x: u32) -> Outcome {
-    of_pair(Answer::Done, 1, x, 0)
-}
-
-pub fn of_truth(x: bool) -> Outcome {
-    of_word(x as u32)
-}
-
-// An answer with the first `count` of two words.
-pub fn of_pair(a: Answer, count: usize, first: u32, second: u32) -> Outcome {
-    Outcome {
-        is_known: true,
-        answer: edge::told(a),
-        count,
-        results: [first as u64, second as u64, 0, 0, 0, 0, 0, 0, 0, 0, 0, 0],
+impl From<()> for Results {
+    fn from(_nothing: ()) -> Results {
+        Results::Nothing
     }
 }
 
-// An answer with one number.
-pub fn of_size(a: Answer, size: usize) -> Outcome {
-    Outcome {
-        is_known: true,
-        answer: edge::told(a),
-        count: 1,
-        results: [size as u64, 0, 0, 0, 0, 0, 0, 0, 0, 0, 0, 0],
+impl From<bool> for Results {
+    fn from(truth: bool) -> Results {
+        Results::One(u64::from(truth))
     }
 }
 
-// An answer with the nine counts, and then `more` of one word.
-pub fn of_counts(a: Answer, n: Counts, more: usize, word: u32) -> Outcome {
-    let lists = [
-        n.rows as u64,
-        n.inputs as u64,
-        n.latches as u64,
-        n.constraints as u64,
-        n.bads as u64,
-        n.outputs as u64,
-        n.sets as u64,
-        n.edges as u64,
-        n.fairness as u64,
-        word as u64,
-        0,
-        0,
-    ];
-    Outcome {
-        is_known: true,
-        answer: edge::told(a),
-        count: if more == 0 { 9 } else { 10 },
-        results: lists,
+// Which constant: 2 where it is neither.
+impl From<Option<bool>> for Results {
+    fn from(constant: Option<bool>) -> Results {
+        Results::One(constant.map_or(2, |truth| u64::from(truth)))
     }
 }
 
-// A result of an outcome.
-pub fn result(o: Outcome, i: usize) -> u64 {
-    let results = o.results;
-    if i < 12 { results[i] } else { 0 }
+impl From<u8> for Results {
+    fn from(code: u8) -> Results {
+        Results::One(u64::from(code))
+    }
+}
+
+impl From<u32> for Results {
+    fn from(word: u32) -> Results {
+        Results::One(u64::from(word))
+    }
+}
+
+impl From<usize> for Results {
+    fn from(size: usize) -> Results {
+        Results::One(size as u64)
+    }
+}
+
+impl From<(u32, u32)> for Results {
+    fn from(pair: (u32, u32)) -> Results {
+        let (first, second) = pair;
+        Results::Two(u64::from(first), u64::from(second))
+    }
+}
+
+impl From<Counts> for Results {
+    fn from(counts: Counts) -> Results {
+        Results::Counts(counts)
+    }
+}
+
+impl From<Built> for Results {
+    fn from(built: Built) -> Results {
+        Results::CountsAnd(built.counts, u64::from(built.edge))
+    }
+}
+
+impl From<Added> for Results {
+    fn from(added: Added) -> Results {
+        Results::CountsAnd(added.counts, u64::from(added.id))
+    }
+}
+
+// The number and the place of the answer, how many results there are, and the results.
+impl fmt::Display for Outcome {
+    fn fmt<W: fmt::Write>(&self, f: &mut fmt::Formatter<W>) -> fmt::Result {
+        let Given {
+            number,
+            place,
+            index,
+            second,
+        } = self.answer;
+        write!(f, "{number} {place} {index} {second} ")?;
+        match self.results {
+            Results::Nothing => write!(f, "0"),
+            Results::One(x) => write!(f, "1 {x}"),
+            Results::Two(x, y) => write!(f, "2 {x} {y}"),
+            Results::Counts(counts) => {
+                write!(f, "9")?;
+                write_counts(f, counts)
+            }
+            Results::CountsAnd(counts, x) => {
+                write!(f, "10")?;
+                write_counts(f, counts)?;
+                write!(f, " {x}")
+            }
+        }
+    }
+}
+
+fn write_counts<W: fmt::Write>(f: &mut fmt::Formatter<W>, counts: Counts) -> fmt::Result {
+    let Counts {
+        rows,
+        inputs,
+        latches,
+        constraints,
+        bads,
+        outputs,
+        sets,
+        edges,
+        fairness,
+    } = counts;
+    write!(
+        f,
+        " {rows} {inputs} {latches} {constraints} {bads} {outputs} {sets} {edges} {fairness}"
+    )
 }

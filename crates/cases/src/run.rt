@@ -1,55 +1,59 @@
-// A run over a script: where reading and writing stand, and what is written of a case.
+// A run over a script.
+use crate::arrays::Arrays;
+use crate::case::Case;
+use crate::fault::Fault;
 use crate::outcome::Outcome;
 use crate::reader::Reader;
-use crate::script::Case;
-use crate::writer::Writer;
-use crate::{reader, report, writer};
-use std::io;
+use crate::slots::{self, Slots};
+use crate::{
+    build_calls, check_call, cnf_call, cone_calls, edges, report, row_calls, script, ternary_calls,
+};
+use std::io::{self, Read, Write};
 
-// Where reading and writing stand. The run goes on while the reader is good.
-#[derive(Clone, Copy)]
-pub struct Run {
-    pub reader: Reader,
-    pub writer: Writer,
+// Replays the script, and says so where it cannot go on. Where reading or writing failed, what is not written out yet is lost.
+pub fn run<S: Read, W: Write>(
+    reader: &mut Reader<S>,
+    writer: &mut W,
+    slots: &mut Slots,
+    arrays: &mut Arrays,
+) -> io::Result<()> {
+    match replay(reader, writer, slots, arrays) {
+        Ok(()) => {}
+        Err(Fault::Unreadable) => writeln!(writer, "unreadable")?,
+        Err(Fault::Io(error)) => return Err(error),
+    }
+    writer.flush()
 }
 
-pub fn begun() -> Run {
-    Run {
-        reader: reader::new(),
-        writer: writer::new(),
-    }
-}
-
-// Writes what a call leaves. Where there was no case, or none that could be read or replayed, the run ends.
-pub fn written(
-    rt: &impl Print,
-    output: &mut [u8],
-    arena: &[u32],
-    w: Writer,
-    case: Case,
-    o: Outcome,
-) -> io::Result<Run> {
-    let reader = case.reader;
-    if !reader::is_good(reader) {
-        return Ok(Run { reader, writer: w });
-    }
-    if !o.is_known {
-        return Ok(Run {
-            reader: reader::spoilt(reader),
-            writer: w,
-        });
-    }
-    let first = report::answer(rt, output, w, case.call, o)?;
-    let writer = report::slot_lines(rt, output, first, arena, case.used)?;
-    Ok(Run { reader, writer })
-}
-
-// Writes out what is left, and says so where the script could not be read.
-pub fn finish(rt: &impl Print, output: &[u8], run: Run) -> io::Result<()> {
-    let reader = run.reader;
-    writer::flushed(rt, output, run.writer)?;
-    if reader.bad {
-        rt.write_all(b"unreadable\n")?;
+// Replays case after case.
+//
+// A proved loop has to end, and nothing says that a script does. So the loop counts its turns, up to a number that no run reaches.
+fn replay<S: Read, W: Write>(
+    reader: &mut Reader<S>,
+    writer: &mut W,
+    slots: &mut Slots,
+    arrays: &mut Arrays,
+) -> Result<(), Fault> {
+    for _ in 0..u64::MAX {
+        let Some(case) = script::next_case(reader, slots)? else {
+            break;
+        };
+        let outcome = made(&case, slots, arrays).ok_or(Fault::Unreadable)?;
+        report::write_case(writer, case.call, outcome, slots)?;
     }
     Ok(())
+}
+
+// Makes the call: none where there is no such call, or a slot is longer than the array that takes it.
+fn made(case: &Case, slots: &mut Slots, arrays: &mut Arrays) -> Option<Outcome> {
+    match case.call {
+        1..=11 => edges::run(case, slots.words(slots::LIST)),
+        20..=24 => row_calls::run(case, slots.words(slots::ROWS)),
+        30 => check_call::run(case, slots, arrays),
+        40..=59 => build_calls::run(case, slots, arrays),
+        60 | 61 => cone_calls::run(case, slots, arrays),
+        90..=92 => ternary_calls::run(case, slots, arrays),
+        100 => cnf_call::run(case, slots, arrays),
+        _ => None,
+    }
 }

@@ -1,10 +1,9 @@
-// The slices of a case, in one arena of words. The first 32 words say of each slot where its words begin: 0 where it was not given. Behind
-// them the slots stand as they were given, each as its number, its length and its words; so the line that is written of a slot is just that
-// row of words.
-ghost use Rattle.std.specs.Prelude.{◌^◌, ◌<◌, ◌≤◌, length};
+// The slices of a case, in one arena of words. A call reads slices there, and is lent copies of those that it writes to, which are put back after it: the arena cannot be lent for both.
+use graph::{Counts, Graph};
+use std::ops::Range;
 
-// How many slots there are, and so where the first one stands.
-pub const SLOTS: usize = 32;
+// How many slots there are. Each has its number in oracle/FORMAT.md, and not all have a name.
+const SLOTS: usize = 32;
 
 // The graph.
 pub const ROWS: usize = 0;
@@ -43,106 +42,132 @@ pub const STATE_BYTES: usize = 23;
 
 pub const VALUE_BYTES: usize = 24;
 
-// The last place for a slot: where its words begin is a word of the arena.
-const LAST: usize = 4294967293;
-
-// The words of a slot: none where it was not given.
-pub fn words(arena: &[u32], slot: usize) -> &[u32] {
-    let from = start(arena, slot);
-    part(arena, from, length_at(arena, from))
+// Where the words of a slot stand in the arena.
+#[derive(Clone, Copy)]
+struct Place {
+    from: usize,
+    end: usize,
 }
 
-// The words from `from` on, as many as `len`: none where there are fewer.
-pub fn part(arena: &[u32], from: usize, len: usize) -> &[u32] {
-    if from > arena.len() {
-        return &arena[0..0];
-    }
-    if len > arena.len() - from {
-        return &arena[0..0];
-    }
-    &arena[from..from + len]
+#[derive(Drop)]
+pub struct Slots<'a> {
+    // The slots as they were given: of each its number, its length and its words.
+    arena: &'a mut [u32],
+    // How much of the arena they take: no slice of it, since a slot more needs the rest.
+    used: usize,
+    // Where each slot stands, if it was given.
+    places: [Option<Place>; SLOTS],
 }
 
-// Where the words of a slot begin.
-pub fn start(arena: &[u32], slot: usize) -> usize {
-    if slot < arena.len() {
-        wide(arena[slot])
-    } else {
-        0
-    }
+// An element of a slice that is lent. The arena has a word for each.
+pub trait Element: Copy {
+    fn of(word: u32) -> Self;
+
+    fn word(self) -> u32;
 }
 
-// How many words begin at `from`: the word before them says so.
-pub fn length_at(arena: &[u32], from: usize) -> usize
-    ensures { result < 2 ^ 32 }
-{
-    if from == 0 {
-        return 0;
+impl Element for u32 {
+    fn of(word: u32) -> u32 {
+        word
     }
-    if from > arena.len() {
-        return 0;
-    }
-    wide(arena[from - 1])
-}
 
-// Says of every slot that it was not given.
-pub fn clear(arena: &mut [u32]) {
-    for slot in 0..SLOTS {
-        put(arena, slot, 0);
+    fn word(self) -> u32 {
+        self
     }
 }
 
-// Begins a slot at `at`, and answers where its words go: 0 where it cannot be kept.
-pub fn opened(arena: &mut [u32], at: usize, slot: u32, len: u32) -> usize
-    ensures { result ≤ length arena.old }
-{
-    if slot as usize >= SLOTS {
-        return 0;
+// A byte, modulo 256.
+impl Element for u8 {
+    fn of(word: u32) -> u8 {
+        (word % 256) as u8
     }
-    if start(arena, slot as usize) != 0 {
-        return 0;
+
+    fn word(self) -> u32 {
+        self as u32
     }
-    if room(arena, at) < len as usize {
-        return 0;
-    }
-    header(arena, at, slot, len)
 }
 
-// How many words a slot at `at` may have.
-fn room(arena: &[u32], at: usize) -> usize {
-    if at > arena.len() {
-        return 0;
+impl<'a> Slots<'a> {
+    pub fn new(arena: &'a mut [u32]) -> Slots<'a> {
+        Slots {
+            arena,
+            used: 0,
+            places: [None; SLOTS],
+        }
     }
-    let rest = arena.len() - at;
-    if rest < 2 { 0 } else { rest - 2 }
-}
 
-// Writes what stands before the words of a slot, and answers where the words go: 0 where there is no room.
-fn header(arena: &mut [u32], at: usize, slot: u32, len: u32) -> usize
-    ensures { result ≤ length arena.old }
-{
-    if at > LAST {
-        return 0;
+    // Gives up the slots of a case.
+    pub fn clear(&mut self) {
+        self.used = 0;
+        self.places = [None; SLOTS];
     }
-    let from = at + 2;
-    if from > arena.len() {
-        return 0;
-    }
-    put(arena, at, slot);
-    put(arena, at + 1, len);
-    put(arena, slot as usize, from as u32);
-    from
-}
 
-pub fn put(arena: &mut [u32], at: usize, word: u32) {
-    if arena.len() <= at {
-        return;
+    // Begins a slot, and lends its words to be filled: none where there is no such slot, it was given before, or the arena is full.
+    pub fn open(&mut self, slot: u32, len: u32) -> Option<&mut [u32]> {
+        let from = self.used.checked_add(2)?;
+        let end = from.checked_add(len as usize)?;
+        let head = self.arena.get_mut(self.used..from)?;
+        head.copy_from_slice(&[slot, len]);
+        let place = self.places.get_mut(slot as usize)?;
+        if place.replace(Place { from, end }).is_some() {
+            return None;
+        }
+        self.used = end;
+        self.arena.get_mut(from..end)
     }
-    arena[at] = word;
-}
 
-fn wide(word: u32) -> usize
-    ensures { result < 2 ^ 32 }
-{
-    word as usize
+    // The slots as they were given.
+    pub fn given(&self) -> &[u32] {
+        self.arena.get(..self.used).unwrap_or(&[])
+    }
+
+    // The words of a slot: none where it was not given.
+    pub fn words(&self, slot: usize) -> &[u32] {
+        self.arena.get(self.range(slot)).unwrap_or(&[])
+    }
+
+    fn words_mut(&mut self, slot: usize) -> &mut [u32] {
+        let range = self.range(slot);
+        self.arena.get_mut(range).unwrap_or(&mut [])
+    }
+
+    fn range(&self, slot: usize) -> Range<usize> {
+        match self.places.get(slot) {
+            Some(Some(place)) => place.from..place.end,
+            _ => 0..0,
+        }
+    }
+
+    // The graph of slots 0 to 8.
+    pub fn graph(&self, counts: Counts) -> Graph<'_> {
+        Graph {
+            rows: self.words(ROWS),
+            inputs: self.words(INPUTS),
+            latches: self.words(LATCHES),
+            constraints: self.words(CONSTRAINTS),
+            bads: self.words(BADS),
+            outputs: self.words(OUTPUTS),
+            ends: self.words(ENDS),
+            edges: self.words(EDGES),
+            fairness: self.words(FAIRNESS),
+            counts,
+        }
+    }
+
+    // Copies a slot, for a call to write to: none where it is longer than the room.
+    pub fn copied<'b, T: Element>(&self, slot: usize, room: &'b mut [T]) -> Option<&'b mut [T]> {
+        let words = self.words(slot);
+        let copy = room.get_mut(..words.len())?;
+        for (to, word) in copy.iter_mut().zip(words) {
+            *to = T::of(*word);
+        }
+        Some(copy)
+    }
+
+    // Puts a slot back as a call left it.
+    pub fn put_back<T: Element>(&mut self, slot: usize, left: &[T]) {
+        for (word, x) in self.words_mut(slot).iter_mut().zip(left) {
+            *word = x.word();
+        }
+    }
 }

@@ -7,12 +7,13 @@ use mathlib.Core.Bool.{Bool, true, false, cond, not}
 use mathlib.Core.List.{List, [], ◌∷◌, ◌++◌}
 use lib.ListN.{length, take, drop, replicate, take-append-drop, length-append, length-replicate}
 use lib.Seq.{sets, sets-eq, take_at}
-use lib.Dec.{eqb, leb}
-use borrow.Author.Tests.{eqb-true, le-leb, leb-true, not-true, not-false}
-use Rattle.edge.specs.declared.answer.Answer.{Answer}
-use Rattle.edge.specs.declared.answer.Answer.TheVariants.{Done, NoRoom}
-use Rattle.edge.specs.Answers.{done, no_room, told, or_else}
-use Rattle.edge.proofs.Answers.{test_done, test_refused, goes_past}
+use lib.Dec.{leb}
+use borrow.Author.Tests.{le-leb, leb-true, not-true, not-false}
+use Rattle.std.specs.Prelude.{Ok, Err}
+use Rattle.edge.specs.declared.answer.Refusal.{Refusal}
+use Rattle.edge.specs.declared.answer.Refusal.TheVariants.{NoRoom}
+use Rattle.edge.specs.Answers.{done, no_room, or_else}
+use Rattle.edge.proofs.Answers.{not_done, goes_past}
 use Rattle.rows.specs.Sizes.{max_rows}
 use Rattle.rows.specs.Rows.{gate_at}
 use Rattle.graph.specs.Graph.{Lent, Sized}
@@ -82,21 +83,18 @@ module _ (shortcuts : Bool) (rows roots marks : List ℕ) (room : ℕ) where
 pub gates_few : (rows : List ℕ) {used gates : ℕ} → gates ≡ gates_below rows used → used ≤ max_rows → gates ≤ max_rows
 gates_few rows {used} e few = omega (arith, e, few, count_within (gate_at rows) used)
 
--- ---- the call, where the check has answered a and left the marks `after`, and d says whether it is done
-module _ (g : Lent) (shortcuts : Bool) (clauses marks : List ℕ) (a : Answer) {after : List ℕ} (seen : check_seen a after ≡ check_call g marks) {d : Bool} (test : d ≡ eqb (told a).number 0) where
-  given : told a ≡ (check_call g marks).given
-  given = ap (λ (s : CheckSeen). s.given) seen
-
-  kept : after ≡ (check_call g marks).marks
-  kept = ap (λ (s : CheckSeen). s.marks) seen
-
-  pub cnf_refused : not d ≡ true → cnf_seen (record { answer = a; words = 0 }) clauses after ≡ cnf_call g shortcuts clauses marks
+-- ---- the call, where the check has left the marks `after`
+module _ (g : Lent) (shortcuts : Bool) (clauses marks : List ℕ) {after : List ℕ} where
+  pub cnf_refused : (f : Refusal) → check_seen (Err f) after ≡ check_call g marks → cnf_seen (Err f) clauses after ≡ cnf_call g shortcuts clauses marks
   unfolding cnf_call cnf_answer or_else
-  cnf_refused h = rw (test_refused given test h, given, kept) (rw (test_refused given test h))
+  cnf_refused f seen = rw (← seen, not_done f, not_done f) refl
 
-  module _ (h : not d ≡ false) where
+  module _ (seen : check_seen (Ok tt) after ≡ check_call g marks) where
+    kept : after ≡ (check_call g marks).marks
+    kept = ap (λ (s : CheckSeen). s.marks) seen
+
     zero_number : (check_call g marks).given.number ≡ 0
-    zero_number = eqb-true (check_call g marks).given.number 0 (test_done given test h)
+    zero_number = rw (← seen) refl
 
     right : Sized g (length marks) × WellFormed g
     right = (exact g marks).accepted zero_number
@@ -117,7 +115,7 @@ module _ (g : Lent) (shortcuts : Bool) (clauses marks : List ℕ) (a : Answer) {
     pub marks_long : used ≤ length after
     marks_long = rw after_cleared (rw (length-append (replicate used 0) (drop used marks), length-replicate {A = ℕ} used 0) (omega arith))
 
-    pub roots_fit : RootsFit g.latches g.constraints g.bads g.outputs g.edges g.fairness g.counts
+    pub roots_fit : RootsFit g
     roots_fit = (roots_known g (length marks) right.0 right.1).fit
 
     pub ready : ClausesReady g.rows (length (take used after)) (roots_of g) (take used after)
@@ -161,13 +159,13 @@ module _ (g : Lent) (shortcuts : Bool) (clauses marks : List ℕ) (a : Answer) {
         fits_is : leb (length ws) (length clauses) ≡ f
         fits_is = sym (rw part_long at asked)
 
-        pub cnf_short : not f ≡ true → cnf_seen (record { answer = NoRoom; words = 0 }) clauses again ≡ cnf_call g shortcuts clauses marks
+        pub cnf_short : not f ≡ true → cnf_seen (Err NoRoom) clauses again ≡ cnf_call g shortcuts clauses marks
         unfolding cnf_call
         cnf_short l = rw (put_back, answer_is, fits_is, not-true f l, kept)
 
         pub cnf_done : not f ≡ false → {n : ℕ} {part' out : List ℕ} → n ≡ length (words (clauses_in shortcuts g.rows (length (take used again)) (roots_of g)))
             → part' ≡ take used again → WrittenIfRoom clauses 0 (words (clauses_in shortcuts g.rows (length (take used again)) (roots_of g))) out
-            → cnf_seen (record { answer = Done; words = n }) out (part' ++ drop used again) ≡ cnf_call g shortcuts clauses marks
+            → cnf_seen (Ok n) out (part' ++ drop used again) ≡ cnf_call g shortcuts clauses marks
         unfolding cnf_call
         cnf_done l e p w =
             let room : length ws ≤ length clauses = leb-true (length ws) (length clauses) (fits_is ∙ not-false f l) in

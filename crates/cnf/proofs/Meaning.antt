@@ -10,7 +10,7 @@ use lib.Seq.{take-append_seam, drop-append_seam}
 use lib.Dec.{eqb, leb}
 use borrow.Author.Tests.{eqb-true, leb-true, leb-false, le-leb, lt-leb}
 use Rattle.edge.specs.declared.answer.Given.{Given}
-use Rattle.edge.specs.Answers.{done, no_room, told, or_else}
+use Rattle.edge.specs.Answers.{done, no_room, told, or_else, value_or}
 use Rattle.edge.proofs.Answers.{none_of_two, goes_past}
 use Rattle.rows.specs.Rows.{AllRows}
 use Rattle.graph.specs.Graph.{Lent, Sized}
@@ -19,7 +19,8 @@ use Rattle.graph.specs.WellFormed.{WellFormed}
 use Rattle.graph.proofs.WellFormed.{exact}
 use Rattle.graph.proofs.Exactly.{room_answers, check_answers, names_refused, own_answers}
 use Rattle.root_marks.specs.Roots.{roots_of}
-use Rattle.cnf.specs.declared.ClausesAnswer.{ClausesAnswer}
+use Rattle.std.specs.Prelude.{Result}
+use Rattle.edge.specs.declared.answer.Refusal.{Refusal}
 use Rattle.gate_clauses.specs.Shapes.{words}
 use Rattle.cnf.specs.Clauses.{cnf_of}
 use Rattle.cnf.specs.Decode.{decoded}
@@ -95,11 +96,11 @@ module _ (g : Lent) (shortcuts : Bool) (clauses marks : List ℕ) where
       go false e z = absurd (check_not_5 g marks z)
 
   -- ---- what it writes
-  module _ (r : ClausesAnswer) (after marks' : List ℕ) (seen : cnf_seen r after marks' ≡ cnf_call g shortcuts clauses marks) (z : (told r.answer).number ≡ 0) where
+  module _ (r : Result ℕ Refusal) (after marks' : List ℕ) (seen : cnf_seen r after marks' ≡ cnf_call g shortcuts clauses marks) (z : (told r).number ≡ 0) where
     lent_right : CnfLent g shortcuts clauses marks
     lent_right = accepted (ap (λ (s : CnfSeen). s.given.number) (sym seen) ∙ z)
 
-    counted : r.words ≡ length ws
+    counted : value_or 0 r ≡ length ws
     unfolding cnf_call
     counted = ap (λ (s : CnfSeen). s.words) seen ∙ rw (accepts lent_right)
 
@@ -107,10 +108,10 @@ module _ (g : Lent) (shortcuts : Bool) (clauses marks : List ℕ) where
     unfolding cnf_call
     written = ap (λ (s : CnfSeen). s.clauses) seen ∙ rw (accepts lent_right)
 
-    in_buffer : decoded (take r.words after) ≡ cnf_of shortcuts g
+    in_buffer : decoded (take (value_or 0 r) after) ≡ cnf_of shortcuts g
     in_buffer = rw (counted, written, take-append_seam ws (drop (length ws) clauses)) (decoded_words (cnf_of shortcuts g))
 
-    translated : Translated g clauses r.words after
+    translated : Translated g clauses (value_or 0 r) after
     translated =
         record {
           translates = rw in_buffer (translates shortcuts g (length marks) lent_right.sized lent_right.well_formed);

@@ -3,6 +3,7 @@
 use Prim.Native.Nat.{ℕ, suc, ◌+◌, ◌-◌, ◌*◌, ◌≤◌, ◌<◌}
 use native.Mathlib.Omega.{arith}
 use mathlib.Core.Bool.{Bool, true, false, not, ◌&&◌}
+use mathlib.Core.Logic.{◌⊎◌, inl, inr}
 use mathlib.Core.Path.{◌≡◌, sym, ap, ◌∙◌}
 use mathlib.Core.List.{List, [], ◌∷◌, ◌++◌}
 use lib.ListN.{length, get_or, length-append}
@@ -17,7 +18,6 @@ use Rattle.graph.specs.Leaves.{used_edge}
 use Rattle.root_marks.specs.Arguments.{every}
 use Rattle.root_marks.specs.Marking.{mark_edges}
 use Rattle.root_marks.proofs.Arguments.{every_at, at_every}
-use Rattle.root_marks.proofs.Marking.{edges_long}
 use Rattle.gate_clauses.specs.declared.Shape.{Shape}
 use Rattle.gate_clauses.specs.declared.Shape.TheVariants.{Unwritten, Plain, Xor, Ite}
 use Rattle.gate_clauses.specs.Shapes.{shape_of, operands, clauses_of, words, WrittenIfRoom}
@@ -27,55 +27,23 @@ use Rattle.graph.proofs.Counting.{count_within}
 use Rattle.cnf.proofs.Decoding.{words_both, walk_few}
 use Rattle.gate_clauses.proofs.Writing.{sets_both}
 
--- ---- the operands of a shape, edge by edge
-pub mark_one : (e : ℕ) (marks : List ℕ) {after : List ℕ} → after ≡ mark_edges (e ∷ []) marks → length after ≡ length marks
-mark_one e marks p = ap length p ∙ edges_long (e ∷ []) marks
-
+-- ---- the operands of a shape
 pub no_operands : (s : Shape) → s ≡ Unwritten → operands s ≡ []
 unfolding operands
 no_operands s e = rw e
 
-pub plain_operands : (s : Shape) (a b : ℕ) → s ≡ Plain a b → operands s ≡ a ∷ b ∷ []
+pub two_operands : (s : Shape) (a b : ℕ) → (s ≡ Plain a b) ⊎ (s ≡ Xor a b) → operands s ≡ a ∷ b ∷ []
 unfolding operands
-plain_operands s a b e = rw e
-
-pub xor_operands : (s : Shape) (a b : ℕ) → s ≡ Xor a b → operands s ≡ a ∷ b ∷ []
-unfolding operands
-xor_operands s a b e = rw e
+two_operands s a b (inl e) = rw e
+two_operands s a b (inr e) = rw e
 
 pub ite_operands : (s : Shape) (c t e : ℕ) → s ≡ Ite c t e → operands s ≡ c ∷ t ∷ e ∷ []
 unfolding operands
 ite_operands s c t e q = rw q
 
-module _ (n : ℕ) (es : List ℕ) (h : every (used_edge n) es ≡ true) where
-  pub used_two : (a b : ℕ) → es ≡ a ∷ b ∷ [] → (used_edge n a ≡ true) × (used_edge n b ≡ true)
-  unfolding every
-  used_two a b e =
-      let k : every (used_edge n) (a ∷ b ∷ []) ≡ true = rw e at h in
-      let t = both {a = used_edge n a} {b = used_edge n b && true} k in
-      (t.0, (both {a = used_edge n b} {b = true} t.1).0)
-
-  pub used_three : (a b c : ℕ) → es ≡ a ∷ b ∷ c ∷ [] → (used_edge n a ≡ true) × (used_edge n b ≡ true) × (used_edge n c ≡ true)
-  unfolding every
-  used_three a b c e =
-      let k : every (used_edge n) (a ∷ b ∷ c ∷ []) ≡ true = rw e at h in
-      let t = both {a = used_edge n a} {b = used_edge n b && (used_edge n c && true)} k in
-      let u = both {a = used_edge n b} {b = used_edge n c && true} t.1 in
-      (t.0, u.0, (both {a = used_edge n c} {b = true} u.1).0)
-
-module _ (marks es : List ℕ) where
-  pub mark_none : es ≡ [] → marks ≡ mark_edges es marks
-  unfolding mark_edges
-  mark_none e = rw e
-
-  module _ {m₁ m₂ : List ℕ} where
-    pub mark_two : (a b : ℕ) → es ≡ a ∷ b ∷ [] → m₁ ≡ mark_edges (a ∷ []) marks → m₂ ≡ mark_edges (b ∷ []) m₁ → m₂ ≡ mark_edges es marks
-    unfolding mark_edges
-    mark_two a b e p q = q ∙ rw (e, p)
-
-    pub mark_three : (a b c : ℕ) {m₃ : List ℕ} → es ≡ a ∷ b ∷ c ∷ [] → m₁ ≡ mark_edges (a ∷ []) marks → m₂ ≡ mark_edges (b ∷ []) m₁ → m₃ ≡ mark_edges (c ∷ []) m₂ → m₃ ≡ mark_edges es marks
-    unfolding mark_edges
-    mark_three a b c e p q r = r ∙ rw (e, q, p)
+pub mark_none : (marks es : List ℕ) → es ≡ [] → marks ≡ mark_edges es marks
+unfolding mark_edges
+mark_none marks es e = rw e
 
 -- ---- one row
 module _ (shortcuts : Bool) (rows : List ℕ) (i : ℕ) (marks : List ℕ) {t : Bool} (p : t ≡ gate_at rows i) where

@@ -1,13 +1,13 @@
 -- What `cnf` answers and writes.
 -- Assumes nothing.
-use Rattle.std.specs.Prelude.{ℕ, ◌≡◌, List, ◌++◌, Bool, cond, length, drop, leb}
+use Rattle.std.specs.Prelude.{ℕ, ◌≡◌, List, ◌++◌, Bool, cond, length, drop, leb, Result}
 use Rattle.std.proofs.Common.{ap}
+use Rattle.edge.specs.declared.answer.Refusal.{Refusal}
 use Rattle.edge.specs.declared.answer.Given.{Given}
-use Rattle.edge.specs.Answers.{done, no_room, told, told_injective, or_else, determined}
+use Rattle.edge.specs.Answers.{done, no_room, told, value_or, answer_known, or_else, determined}
 use Rattle.rows.specs.Reading.{if_done}
 use Rattle.graph.specs.Graph.{Lent}
 use Rattle.graph.specs.Check.{check_call}
-use Rattle.cnf.specs.declared.ClausesAnswer.{ClausesAnswer}
 use Rattle.gate_clauses.specs.Shapes.{words}
 use Rattle.cnf.specs.Clauses.{cnf_of}
 
@@ -21,8 +21,8 @@ pub record CnfSeen : Type 0 where
   pub clauses : List ℕ
   pub marks : List ℕ
 
-abbrev pub cnf_seen : ClausesAnswer → List ℕ → List ℕ → CnfSeen
-cnf_seen r clauses marks = record { given = told r.answer; words = r.words; clauses = clauses; marks = marks }
+abbrev pub cnf_seen : Result ℕ Refusal → List ℕ → List ℕ → CnfSeen
+cnf_seen r clauses marks = record { given = told r; words = value_or 0 r; clauses = clauses; marks = marks }
 
 -- the words of the clauses, and "words beyond what a call says it writes stay as they were"
 abbrev pub written_over : List ℕ → List ℕ → List ℕ
@@ -41,9 +41,8 @@ cnf_call g shortcuts clauses marks =
     }
 
 -- any two results that the promise allows are equal
-pub cnf_determined : (g : Lent) (shortcuts : Bool) (clauses marks : List ℕ) (r s : ClausesAnswer) (a b m n : List ℕ)
-    → cnf_seen r a m ≡ cnf_call g shortcuts clauses marks → cnf_seen s b n ≡ cnf_call g shortcuts clauses marks
-    → (r.answer ≡ s.answer) × (r.words ≡ s.words) × (a ≡ b) × (m ≡ n)
+pub cnf_determined : (g : Lent) (shortcuts : Bool) (clauses marks : List ℕ) (r s : Result ℕ Refusal) (a b m n : List ℕ)
+    → cnf_seen r a m ≡ cnf_call g shortcuts clauses marks → cnf_seen s b n ≡ cnf_call g shortcuts clauses marks → (r ≡ s) × (a ≡ b) × (m ≡ n)
 cnf_determined g shortcuts clauses marks r s a b m n p q =
     let t = determined (cnf_call g shortcuts clauses) marks (cnf_seen r a m) (cnf_seen s b n) p q in
-    (told_injective r.answer s.answer (ap (λ (x : CnfSeen). x.given) t), ap (λ (x : CnfSeen). x.words) t, ap (λ (x : CnfSeen). x.clauses) t, ap (λ (x : CnfSeen). x.marks) t)
+    (answer_known 0 r s (ap (λ (x : CnfSeen). x.given) t) (ap (λ (x : CnfSeen). x.words) t), ap (λ (x : CnfSeen). x.clauses) t, ap (λ (x : CnfSeen). x.marks) t)

@@ -1,7 +1,8 @@
 -- What the clauses mean, and what the call is held to.
 -- Assumes nothing.
-use Rattle.std.specs.Prelude.{ℕ, ◌+◌, ◌*◌, ◌≤◌, ◌<◌, ◌≡◌, Bool, true, false, ◌&&◌, ◌||◌, List, [], ◌∷◌, length, get_or, take, drop, leb}
-use Rattle.edge.specs.Answers.{done, no_room, told}
+use Rattle.std.specs.Prelude.{ℕ, ◌+◌, ◌*◌, ◌≤◌, ◌<◌, ◌≡◌, Bool, true, false, ◌&&◌, ◌||◌, List, [], ◌∷◌, length, get_or, take, drop, leb, Result}
+use Rattle.edge.specs.declared.answer.Refusal.{Refusal}
+use Rattle.edge.specs.Answers.{done, no_room, told, value_or}
 use Rattle.edge.specs.Meaning.{edge_value}
 use Rattle.rows.specs.Rows.{leaf_at}
 use Rattle.rows.specs.Value.{value}
@@ -10,7 +11,6 @@ use Rattle.graph.specs.Graph.{Lent, Sized}
 use Rattle.graph.specs.WellFormed.{WellFormed}
 use Rattle.graph.specs.Exactly.{Answers}
 use Rattle.root_marks.specs.Roots.{roots_of}
-use Rattle.cnf.specs.declared.ClausesAnswer.{ClausesAnswer}
 use Rattle.gate_clauses.specs.Shapes.{words}
 use Rattle.cnf.specs.Clauses.{cnf_of}
 use Rattle.cnf.specs.Decode.{decoded}
@@ -61,4 +61,4 @@ pub record CnfRight (g : Lent) (shortcuts : Bool) (clauses marks : List ℕ) : T
   pub answers : Answers true true (leb (length (words (cnf_of shortcuts g))) (length clauses)) g marks (cnf_call g shortcuts clauses marks).given (cnf_call g shortcuts clauses marks).marks
   pub refuses : Sized g (length marks) → WellFormed g → length clauses < length (words (cnf_of shortcuts g)) → (cnf_call g shortcuts clauses marks).given ≡ no_room
   pub refused : (cnf_call g shortcuts clauses marks).given.number ≡ 5 → Sized g (length marks) × WellFormed g × (length clauses < length (words (cnf_of shortcuts g)))
-  pub translates : (r : ClausesAnswer) (after marks' : List ℕ) → cnf_seen r after marks' ≡ cnf_call g shortcuts clauses marks → (told r.answer).number ≡ 0 → Translated g clauses r.words after
+  pub translates : (r : Result ℕ Refusal) (after marks' : List ℕ) → cnf_seen r after marks' ≡ cnf_call g shortcuts clauses marks → (told r).number ≡ 0 → Translated g clauses (value_or 0 r) after

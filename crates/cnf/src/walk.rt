@@ -9,16 +9,8 @@ ghost use Rattle.cnf.specs.Clauses.{written_at, walk};
 
 use gate_clauses::put::put_shape;
 use gate_clauses::{Shape, shape_of};
+use root_marks::mark_edges;
 use rows::kinds::is_gate;
-
-// Marks the row of an edge.
-fn mark_edge(e: u32, marks: &mut [u32])
-    requires { used_edge (length marks.old) e ≡ true }
-    ensures { marks.new ≡ mark_edges (e ∷ []) marks.old }
-{
-    let x = (e / 2) as usize;
-    marks[x] = 1;
-}
 
 // Marks the rows of a shape's operands.
 fn mark_operands(s: Shape, marks: &mut [u32])
@@ -27,19 +19,8 @@ fn mark_operands(s: Shape, marks: &mut [u32])
 {
     match s {
         Shape::Unwritten => {}
-        Shape::Plain(a, b) => {
-            mark_edge(a, marks);
-            mark_edge(b, marks);
-        }
-        Shape::Xor(a, b) => {
-            mark_edge(a, marks);
-            mark_edge(b, marks);
-        }
-        Shape::Ite(c, t, e) => {
-            mark_edge(c, marks);
-            mark_edge(t, marks);
-            mark_edge(e, marks);
-        }
+        Shape::Plain(a, b) | Shape::Xor(a, b) => mark_edges(&[a, b], marks),
+        Shape::Ite(c, t, e) => mark_edges(&[c, t, e], marks),
     }
 }
 
@@ -68,9 +49,7 @@ pub fn put_rows(shortcuts: bool, rows: &[u32], clauses: &mut [u32], marks: &mut 
     ensures written { WrittenIfRoom clauses.old 2 (words (walk shortcuts rows.now (length marks.old) marks.old)) clauses.new }
 {
     let mut at = 2;
-    let mut i = marks.len();
-    while 0 < i {
-        i -= 1;
+    for i in (0..marks.len()).rev() {
         let s = visit(shortcuts, rows, i, marks);
         at = put_shape(clauses, at, 2 * (i as u32), s);
     }

@@ -1,8 +1,8 @@
 -- What `coi` answers and writes.
 -- Assumes nothing.
-use Rattle.std.specs.Prelude.{ℕ, ◌≡◌, List, ◌++◌, Bool, cond, ◌&&◌, length, drop, leb, eqb}
+use Rattle.std.specs.Prelude.{ℕ, ◌≡◌, List, ◌++◌, Bool, cond, ◌&&◌, length, drop, leb, eqb, Result}
 use Rattle.std.proofs.Common.{ap}
-use Rattle.edge.specs.declared.answer.Answer.{Answer}
+use Rattle.edge.specs.declared.answer.Refusal.{Refusal}
 use Rattle.edge.specs.declared.answer.Given.{Given}
 use Rattle.edge.specs.Answers.{told, told_injective, determined}
 use Rattle.rows.specs.Sizes.{max_entries}
@@ -30,7 +30,7 @@ pub record CoiSeen : Type 0 where
   pub marks : List ℕ
   pub stack : List ℕ
 
-abbrev pub coi_seen : Answer → List ℕ → List ℕ → List ℕ → CoiSeen
+abbrev pub coi_seen : Result Unit Refusal → List ℕ → List ℕ → List ℕ → CoiSeen
 coi_seen r flags marks stack = record { given = told r; flags = flags; marks = marks; stack = stack }
 
 -- "A refusal changes no row, list, output or state"; "words beyond what a call says it writes stay as they were"
@@ -45,7 +45,7 @@ coi_call g ids flags marks stack =
     }
 
 -- any two results that the promise allows are equal
-pub coi_determined : (g : Lent) (ids flags marks stack : List ℕ) (r s : Answer) (f h m n p q : List ℕ)
+pub coi_determined : (g : Lent) (ids flags marks stack : List ℕ) (r s : Result Unit Refusal) (f h m n p q : List ℕ)
     → coi_seen r f m p ≡ coi_call g ids flags marks stack → coi_seen s h n q ≡ coi_call g ids flags marks stack → (r ≡ s) × (f ≡ h) × (m ≡ n) × (p ≡ q)
 coi_determined g ids flags marks stack r s f h m n p q a b =
     let t = determined (coi_call g ids flags marks) stack (coi_seen r f m p) (coi_seen s h n q) a b in

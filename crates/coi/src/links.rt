@@ -2,15 +2,16 @@
 ghost use Rattle.std.specs.Prelude.{◌≡◌, length, replicate};
 ghost use Rattle.coi.specs.Steps.{Links, LatchesKnown};
 
+use graph::Graph;
 use graph::latch::latch_at;
 
-pub fn link(latches: &[u32], n: usize, marks: &mut [u32])
-    requires latches_known { LatchesKnown latches.now n (length marks.old) }
+pub fn link(graph: &Graph, marks: &mut [u32])
+    requires latches_known { LatchesKnown graph.now.latches.now graph.now.counts.latches (length marks.old) }
     requires marks_value { marks.old ≡ replicate (length marks.old) 0 }
-    ensures { Links latches.now n marks.new }
+    ensures { Links graph.now.latches.now graph.now.counts.latches marks.new }
 {
-    for k in 0..n {
-        let x = latch_at(latches, k).input as usize;
+    for k in 0..graph.counts.latches {
+        let x = latch_at(graph.latches, k).input as usize;
         marks[x] = (k + 1) as u32;
     }
 }

@@ -2,25 +2,26 @@
 -- Assumes nothing.
 use Prim.Native.Nat.{ℕ, ◌*◌, ◌≤◌}
 use native.Mathlib.Omega.{arith}
-use mathlib.Core.Path.{◌≡◌, ap}
-use mathlib.Core.Bool.{Bool, true, false, not}
+use mathlib.Core.Path.{◌≡◌, refl, ap, ◌∙◌}
+use mathlib.Core.Bool.{Bool, true}
 use mathlib.Core.List.{List, ◌++◌}
 use lib.ListN.{length, take, drop}
 use lib.Seq.{length-take-le}
-use lib.Dec.{eqb, leb}
-use borrow.Author.Tests.{eqb-true, leb-true}
-use Rattle.edge.specs.declared.answer.Answer.{Answer}
-use Rattle.edge.specs.Answers.{told}
+use lib.Dec.{leb}
+use borrow.Author.Tests.{leb-true}
+use Rattle.std.specs.Prelude.{Result, Ok, Err}
+use Rattle.std.specs.List.{list_all}
+use Rattle.edge.specs.declared.answer.Refusal.{Refusal}
 use Rattle.edge.proofs.Tests.{both}
-use Rattle.edge.proofs.Answers.{test_done, test_refused}
+use Rattle.edge.proofs.Answers.{not_done}
 use Rattle.rows.specs.Sizes.{max_entries}
 use Rattle.graph.specs.Leaves.{used_edge}
 use Rattle.graph.specs.Graph.{Lent}
-use Rattle.graph.specs.Check.{CheckSeen, check_seen}
-use Rattle.root_marks.specs.Arguments.{every}
+use Rattle.graph.specs.Check.{check_seen}
+use Rattle.root_marks.specs.Arguments.{every, args_call}
 use Rattle.cone.specs.Cone.{cone_of}
 use Rattle.cone.specs.Call.{cone_room, cone_checked, cone_seen, cone_call}
-use Rattle.root_marks.proofs.Arguments.{Accepted, args_accepted}
+use Rattle.root_marks.proofs.Arguments.{Accepted, args_accepted, every_all}
 
 abbrev pub ConeAccepted : Lent → List ℕ → ℕ → ℕ → Type 0
 ConeAccepted g roots flags marks = Accepted (cone_room g roots flags) (every (used_edge g.counts.rows) roots) g marks
@@ -42,30 +43,26 @@ pub record ConeReady (g : Lent) (roots flags : List ℕ) : Type 0 where
   pub rows : 2 * length (take g.counts.rows flags) ≤ length g.rows
   pub used : every (used_edge (length (take g.counts.rows flags))) roots ≡ true
 
--- a is the answer, `after` are the marks, and d says whether it is done
-module _ (g : Lent) (roots flags marks : List ℕ) (a : Answer) {after : List ℕ} (seen : check_seen a after ≡ cone_checked g roots (length flags) marks) {d : Bool}
-    (test : d ≡ eqb (told a).number 0) where
-  given : told a ≡ (cone_checked g roots (length flags) marks).given
-  given = ap (λ (s : CheckSeen). s.given) seen
+-- `after` are the marks
+module _ (g : Lent) (roots flags marks : List ℕ) {after : List ℕ} where
+  -- the call asks the library's `list_all` of the roots
+  pub as_checked : {good : Bool} (r : Result Unit Refusal) → good ≡ list_all (used_edge g.counts.rows) roots
+      → check_seen r after ≡ args_call (cone_room g roots (length flags)) good g marks → check_seen r after ≡ cone_checked g roots (length flags) marks
+  unfolding cone_checked
+  as_checked r e seen = seen ∙ ap (λ (b : Bool). args_call (cone_room g roots (length flags)) b g marks) (e ∙ every_all (used_edge g.counts.rows) roots)
 
-  kept : after ≡ (cone_checked g roots (length flags) marks).marks
-  kept = ap (λ (s : CheckSeen). s.marks) seen
-
-  pub cone_refused : not d ≡ true → cone_seen a flags after ≡ cone_call g roots flags marks
+  pub cone_refused : (f : Refusal) → check_seen (Err f) after ≡ cone_checked g roots (length flags) marks → cone_seen (Err f) flags after ≡ cone_call g roots flags marks
   unfolding cone_call
-  cone_refused h = rw (test_refused given test h, given, kept)
+  cone_refused f seen = rw (← seen, not_done f) refl
 
-  module _ (h : not d ≡ false) where
-    done : eqb (cone_checked g roots (length flags) marks).given.number 0 ≡ true
-    done = test_done given test h
-
+  module _ (seen : check_seen (Ok tt) after ≡ cone_checked g roots (length flags) marks) where
     pub ready : ConeReady g roots flags
     ready =
-        let t = cone_accepted g roots (length flags) marks (eqb-true (cone_checked g roots (length flags) marks).given.number 0 done) in
+        let t = cone_accepted g roots (length flags) marks (rw (← seen) refl) in
         let l = (own_sizes g roots (length flags) t.roomy).0 in
         let e = length-take-le g.counts.rows flags l in
         record { long = l; part = e; rows = omega (arith, t.sized.rows.fit.within); used = rw e t.all_good }
 
-    pub cone_done : {part : List ℕ} → part ≡ cone_of g.rows (length (take g.counts.rows flags)) roots → cone_seen a (part ++ drop g.counts.rows flags) after ≡ cone_call g roots flags marks
+    pub cone_done : {part : List ℕ} → part ≡ cone_of g.rows (length (take g.counts.rows flags)) roots → cone_seen (Ok tt) (part ++ drop g.counts.rows flags) after ≡ cone_call g roots flags marks
     unfolding cone_call
-    cone_done w = rw (done, given, kept, w, ready.part)
+    cone_done w = rw (← seen, w, ready.part) refl

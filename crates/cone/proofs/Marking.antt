@@ -4,11 +4,11 @@ use Prim.Native.Nat.{ℕ, suc, ◌-◌, ◌/◌, ◌≤◌, ◌<◌}
 use native.Mathlib.Omega.{arith}
 use mathlib.Core.Path.{◌≡◌, refl, ap, ◌∙◌}
 use mathlib.Core.Bool.{true, false, ◌&&◌}
-use mathlib.Core.List.{List}
-use lib.ListN.{length, get_or, set, replicate, length-replicate}
+use mathlib.Core.List.{List, [], ◌∷◌}
+use borrow.Author.Tests.{lt-ltb}
+use lib.ListN.{length, get_or, replicate, length-replicate}
 use lib.Dec.{eqb}
-use Rattle.edge.specs.Edges.{id_of}
-use Rattle.edge.proofs.Tests.{both}
+use Rattle.edge.proofs.Tests.{both, both_true}
 use Rattle.rows.specs.Rows.{word0, word1, is_gate, gate_at}
 use Rattle.rows.proofs.Laws.{gate_below}
 use Rattle.graph.specs.Leaves.{used_edge}
@@ -25,13 +25,18 @@ module _ (rows : List ℕ) (i : ℕ) (flags : List ℕ) where
   unfolding mark_row
   row_stays h = rw h
 
-  pub row_marks : eqb (get_or flags i 0) 1 && gate_at rows i ≡ true → mark_row rows i flags ≡ set (set flags (id_of (word0 rows i)) 1) (id_of (word1 rows i)) 1
-  unfolding mark_row
+  pub row_marks : eqb (get_or flags i 0) 1 && gate_at rows i ≡ true → mark_row rows i flags ≡ mark_edges (word0 rows i ∷ word1 rows i ∷ []) flags
+  unfolding mark_row mark_edges
   row_marks h = rw h
 
 -- the fanins of a row that passed the test stand below it
 pub test_below : (flag i a b : ℕ) → eqb flag 1 && is_gate i a b ≡ true → (a / 2 < i) × (b / 2 < i)
 test_below flag i a b h = gate_below i a b (both {a = eqb flag 1} {b = is_gate i a b} h).1
+
+-- two edges to used rows
+pub two_used : (n a b : ℕ) → a / 2 < n → b / 2 < n → every (used_edge n) (a ∷ b ∷ []) ≡ true
+unfolding every
+two_used n a b p q = both_true {a = used_edge n a} (lt-ltb (a / 2) n p) (both_true {a = used_edge n b} (lt-ltb (b / 2) n q) refl)
 
 -- ---- from the last row down
 module _ (rows : List ℕ) (i : ℕ) (flags : List ℕ) where

@@ -1,8 +1,8 @@
 -- What `fanin_logic_cone` answers and writes.
 -- Assumes nothing.
-use Rattle.std.specs.Prelude.{ℕ, ◌≡◌, List, ◌++◌, Bool, ◌&&◌, length, drop, leb}
+use Rattle.std.specs.Prelude.{ℕ, ◌≡◌, List, ◌++◌, Bool, ◌&&◌, length, drop, leb, Result}
 use Rattle.std.proofs.Common.{ap}
-use Rattle.edge.specs.declared.answer.Answer.{Answer}
+use Rattle.edge.specs.declared.answer.Refusal.{Refusal}
 use Rattle.edge.specs.declared.answer.Given.{Given}
 use Rattle.edge.specs.Answers.{told, told_injective, determined}
 use Rattle.rows.specs.Sizes.{max_entries}
@@ -26,7 +26,7 @@ pub record ConeSeen : Type 0 where
   pub flags : List ℕ
   pub marks : List ℕ
 
-abbrev pub cone_seen : Answer → List ℕ → List ℕ → ConeSeen
+abbrev pub cone_seen : Result Unit Refusal → List ℕ → List ℕ → ConeSeen
 cone_seen r flags marks = record { given = told r; flags = flags; marks = marks }
 
 -- "A refusal changes no row, list, output or state"; "words beyond what a call says it writes stay as they were"
@@ -40,7 +40,7 @@ cone_call g roots flags marks =
     }
 
 -- any two results that the promise allows are equal
-pub fanin_logic_cone_determined : (g : Lent) (roots flags marks : List ℕ) (r s : Answer) (f h m n : List ℕ)
+pub fanin_logic_cone_determined : (g : Lent) (roots flags marks : List ℕ) (r s : Result Unit Refusal) (f h m n : List ℕ)
     → cone_seen r f m ≡ cone_call g roots flags marks → cone_seen s h n ≡ cone_call g roots flags marks → (r ≡ s) × (f ≡ h) × (m ≡ n)
 fanin_logic_cone_determined g roots flags marks r s f h m n p q =
     let t = determined (cone_call g roots flags) marks (cone_seen r f m) (cone_seen s h n) p q in

@@ -2,6 +2,7 @@
 ghost use Rattle.std.specs.Prelude.{◌≡◌, ◌+◌, ◌*◌, ◌≤◌, ◌<◌, length};
 ghost use Rattle.cone.specs.Cone.{mark_row, mark_below};
 
+use root_marks::mark_edges;
 use rows::kinds::is_gate;
 
 // Where row i is flagged and is a gate, both fanins are flagged.
@@ -15,19 +16,14 @@ fn mark_row(rows: &[u32], i: usize, flags: &mut [u32])
     if !((flags[i] == 1) & is_gate(i, a, b)) {
         return;
     }
-    let x = (a / 2) as usize;
-    flags[x] = 1;
-    let y = (b / 2) as usize;
-    flags[y] = 1;
+    mark_edges(&[a, b], flags);
 }
 
 pub fn mark_below(rows: &[u32], flags: &mut [u32])
     requires { 2 * length flags.old ≤ length rows.now }
     ensures { flags.new ≡ mark_below rows.now (length flags.old) flags.old }
 {
-    let mut i = flags.len();
-    while 0 < i {
-        i -= 1;
+    for i in (0..flags.len()).rev() {
         mark_row(rows, i, flags);
     }
 }

@@ -1,11 +1,14 @@
 -- Laws of the first refusal.
 -- Assumes nothing.
 use mathlib.Core.Path.{◌≡◌, refl, sym, ap, ◌∙◌}
-use mathlib.Core.Bool.{Bool, true, false, cond, not}
+use mathlib.Core.Bool.{Bool, true, false, cond}
 use lib.Dec.{eqb}
-use borrow.Author.Tests.{eq-eqb, ne_eqb, eqb-true, eqb-false, not-true, not-false}
+use borrow.Author.Tests.{eq-eqb, ne_eqb, eqb-true, eqb-false}
+use Rattle.std.specs.Prelude.{Result, Ok, Err, IsErrAnd}
 use Rattle.edge.specs.declared.answer.Given.{Given}
-use Rattle.edge.specs.Answers.{or_else}
+use Rattle.edge.specs.declared.answer.Refusal.{Refusal}
+use Rattle.edge.specs.declared.answer.Refusal.TheVariants.{BadSizes, BadRow, BadEntry, BadArgument, NoRoom}
+use Rattle.edge.specs.Answers.{done, refused, told, or_else}
 
 -- of two answers
 module _ (g h : Given) where
@@ -26,10 +29,23 @@ module _ (g h : Given) where
       go true e z = (eqb-true _ _ e, z)
       go false e z = absurd (eqb-false _ _ e z)
 
--- what a test by `is_done` tells, where the answer's number and place are told by g
-module _ {t g : Given} {d : Bool} (p : t ≡ g) (e : d ≡ eqb t.number 0) where
-  pub test_done : not d ≡ false → eqb g.number 0 ≡ true
-  test_done h = ap (λ (x : Given). eqb x.number 0) (sym p) ∙ (sym e ∙ not-false d h)
+-- a refusal is not done
+pub not_done : (f : Refusal) → eqb (refused f).number 0 ≡ false
+not_done BadSizes = refl
+not_done (BadRow i) = refl
+not_done (BadEntry l i s) = refl
+not_done BadArgument = refl
+not_done NoRoom = refl
 
-  pub test_refused : not d ≡ true → eqb g.number 0 ≡ false
-  test_refused h = ap (λ (x : Given). eqb x.number 0) (sym p) ∙ (sym e ∙ not-true d h)
+-- a `?` hands on the refusal that it was given
+pub handed_on : {T : Type 0} (r : Result T Refusal) (f : Refusal) → IsErrAnd r (λ e. e ≡ f) → r ≡ Err f
+handed_on (Ok x) f h = absurd h
+handed_on (Err e) f h = ap Err h
+
+-- what a call's answer tells, where its number and place are given by g
+module _ {T : Type 0} {r : Result T Refusal} {g : Given} (p : told r ≡ g) where
+  pub was_done : {x : T} → r ≡ Ok x → g ≡ done
+  was_done e = sym p ∙ ap (λ (q : Result T Refusal). told q) e
+
+  pub was_refused : {f : Refusal} → r ≡ Err f → g ≡ refused f
+  was_refused e = sym p ∙ ap (λ (q : Result T Refusal). told q) e

@@ -1,13 +1,10 @@
 -- Edge codes: "an edge is one word, 2·id + 1 if complemented, else 2·id".
 -- Assumes nothing.
-use Rattle.std.specs.Prelude.{ℕ, ◌+◌, ◌*◌, ◌/◌, ◌%◌, Bool, true, false, cond, not, List, ◌≡◌, eqb, ltb, leb, length, get_or}
+use Rattle.std.specs.Prelude.{ℕ, ◌+◌, ◌*◌, ◌/◌, ◌%◌, Bool, true, false, cond, not, List, ◌≡◌, eqb, ltb, leb, length, get_or, Option, Some, None, Result}
 use Rattle.std.proofs.Common.{ap}
-use Rattle.edge.specs.Answers.{done, bad_argument, told, told_injective, determined}
+use Rattle.edge.specs.Answers.{done, bad_argument, told, value_or, answer_known, determined}
 use Rattle.edge.specs.declared.answer.Given.{Given}
-use Rattle.edge.specs.declared.EdgeAnswer.{EdgeAnswer}
-use Rattle.edge.specs.declared.BoolAnswer.{BoolAnswer}
-use Rattle.edge.specs.declared.MaybeConstant.{MaybeConstant}
-use Rattle.edge.specs.declared.MaybeConstant.TheVariants.{False, True, Neither}
+use Rattle.edge.specs.declared.answer.Refusal.{Refusal}
 
 -- the code of the edge to a row
 abbrev pub edge_of : ℕ → Bool → ℕ
@@ -35,16 +32,16 @@ complement_if flip e = cond flip (complement e) e
 abbrev pub constant_of : Bool → ℕ
 constant_of polarity = edge_of 0 polarity
 
-unfoldable pub which_constant : ℕ → MaybeConstant
-which_constant e = cond (eqb e (constant_of true)) True (cond (eqb e (constant_of false)) False Neither)
+unfoldable pub which_constant : ℕ → Option Bool
+which_constant e = cond (eqb e (constant_of true)) (Some true) (cond (eqb e (constant_of false)) (Some false) None)
 
 -- ---- calls that answer a truth value
 pub record BoolSeen : Type 0 where
   pub given : Given
   pub value : Bool
 
-abbrev pub bool_seen : BoolAnswer → BoolSeen
-bool_seen r = record { given = told r.answer; value = r.value }
+abbrev pub bool_seen : Result Bool Refusal → BoolSeen
+bool_seen r = record { given = told r; value = value_or false r }
 
 abbrev pub bool_done : Bool → BoolSeen
 bool_done v = record { given = done; value = v }
@@ -52,10 +49,9 @@ bool_done v = record { given = done; value = v }
 abbrev pub bool_refused : Given → BoolSeen
 bool_refused t = record { given = t; value = false }
 
-abbrev pub value_of : MaybeConstant → BoolSeen
-value_of True = bool_done true
-value_of False = bool_done false
-value_of Neither = bool_refused bad_argument
+abbrev pub value_of : Option Bool → BoolSeen
+value_of (Some v) = bool_done v
+value_of None = bool_refused bad_argument
 
 -- "`to_constant` of another edge: 4"
 abbrev pub to_constant_call : ℕ → BoolSeen
@@ -66,8 +62,8 @@ pub record EdgeSeen : Type 0 where
   pub given : Given
   pub edge : ℕ
 
-abbrev pub edge_seen : EdgeAnswer → EdgeSeen
-edge_seen r = record { given = told r.answer; edge = r.edge }
+abbrev pub edge_seen : Result ℕ Refusal → EdgeSeen
+edge_seen r = record { given = told r; edge = value_or 0 r }
 
 abbrev pub edge_done : ℕ → EdgeSeen
 edge_done e = record { given = done; edge = e }
@@ -83,23 +79,23 @@ unfoldable pub map_call : ℕ → List ℕ → EdgeSeen
 map_call e map = cond (ltb (id_of e) (length map)) (new_call (get_or map (id_of e) 0) (is_complemented e)) (edge_refused bad_argument)
 
 -- ---- any two results that a promise allows are equal, call by call
-pub bool_determined : {L : Type 0} (f : L → BoolSeen) (l : L) (r s : BoolAnswer) → bool_seen r ≡ f l → bool_seen s ≡ f l → (r.answer ≡ s.answer) × (r.value ≡ s.value)
+pub bool_determined : {L : Type 0} (f : L → BoolSeen) (l : L) (r s : Result Bool Refusal) → bool_seen r ≡ f l → bool_seen s ≡ f l → r ≡ s
 bool_determined f l r s p q =
     let t = determined f l (bool_seen r) (bool_seen s) p q in
-    (told_injective r.answer s.answer (ap (λ (x : BoolSeen). x.given) t), ap (λ (x : BoolSeen). x.value) t)
+    answer_known false r s (ap (λ (x : BoolSeen). x.given) t) (ap (λ (x : BoolSeen). x.value) t)
 
-pub edge_determined : {L : Type 0} (f : L → EdgeSeen) (l : L) (r s : EdgeAnswer) → edge_seen r ≡ f l → edge_seen s ≡ f l → (r.answer ≡ s.answer) × (r.edge ≡ s.edge)
+pub edge_determined : {L : Type 0} (f : L → EdgeSeen) (l : L) (r s : Result ℕ Refusal) → edge_seen r ≡ f l → edge_seen s ≡ f l → r ≡ s
 edge_determined f l r s p q =
     let t = determined f l (edge_seen r) (edge_seen s) p q in
-    (told_injective r.answer s.answer (ap (λ (x : EdgeSeen). x.given) t), ap (λ (x : EdgeSeen). x.edge) t)
+    answer_known 0 r s (ap (λ (x : EdgeSeen). x.given) t) (ap (λ (x : EdgeSeen). x.edge) t)
 
-pub new_determined : (id : ℕ) (c : Bool) (r s : EdgeAnswer) → edge_seen r ≡ new_call id c → edge_seen s ≡ new_call id c → (r.answer ≡ s.answer) × (r.edge ≡ s.edge)
+pub new_determined : (id : ℕ) (c : Bool) (r s : Result ℕ Refusal) → edge_seen r ≡ new_call id c → edge_seen s ≡ new_call id c → r ≡ s
 new_determined id = edge_determined (new_call id)
 
-pub map_determined : (e : ℕ) (map : List ℕ) (r s : EdgeAnswer) → edge_seen r ≡ map_call e map → edge_seen s ≡ map_call e map → (r.answer ≡ s.answer) × (r.edge ≡ s.edge)
+pub map_determined : (e : ℕ) (map : List ℕ) (r s : Result ℕ Refusal) → edge_seen r ≡ map_call e map → edge_seen s ≡ map_call e map → r ≡ s
 map_determined e = edge_determined (map_call e)
 
-pub to_constant_determined : (e : ℕ) (r s : BoolAnswer) → bool_seen r ≡ to_constant_call e → bool_seen s ≡ to_constant_call e → (r.answer ≡ s.answer) × (r.value ≡ s.value)
+pub to_constant_determined : (e : ℕ) (r s : Result Bool Refusal) → bool_seen r ≡ to_constant_call e → bool_seen s ≡ to_constant_call e → r ≡ s
 to_constant_determined = bool_determined to_constant_call
 
 pub node_id_determined : (e r s : ℕ) → r ≡ id_of e → s ≡ id_of e → r ≡ s
@@ -123,5 +119,5 @@ is_const_determined = determined (λ (e : ℕ). eqb (id_of e) 0)
 pub is_constant_determined : (e : ℕ) (polarity r s : Bool) → r ≡ eqb e (constant_of polarity) → s ≡ eqb e (constant_of polarity) → r ≡ s
 is_constant_determined e = determined (λ (b : Bool). eqb e (constant_of b))
 
-pub try_to_constant_determined : (e : ℕ) (r s : MaybeConstant) → r ≡ which_constant e → s ≡ which_constant e → r ≡ s
+pub try_to_constant_determined : (e : ℕ) (r s : Option Bool) → r ≡ which_constant e → s ≡ which_constant e → r ≡ s
 try_to_constant_determined = determined which_constant

@@ -1,4 +1,4 @@
-// Edge codes, and the answers of every call. An edge is 2·id, or 2·id + 1 if complemented; so 0 is false and 1 is true.
+// Edge codes, and what every call answers. An edge is 2·id, or 2·id + 1 if complemented; so 0 is false and 1 is true.
 #![tactic(auto)]
 
 mod answer;
@@ -6,47 +6,19 @@ mod answer;
 ghost use Rattle.std.specs.Prelude.{◌≡◌, eqb};
 ghost use Rattle.edge.specs.Edges.{id_of, is_complemented, complement, complement_if, constant_of, which_constant, bool_seen, to_constant_call, edge_seen, new_call, map_call};
 
-pub use answer::{Answer, Given, is_done, told};
-
-// An answer, and the edge that comes with it: 0 where it is refused.
-#[derive(Clone, Copy)]
-pub struct EdgeAnswer {
-    pub answer: Answer,
-    pub edge: u32,
-}
-
-// An answer, and the truth value that comes with it: false where it is refused.
-#[derive(Clone, Copy)]
-pub struct BoolAnswer {
-    pub answer: Answer,
-    pub value: bool,
-}
-
-// Which constant an edge is, if any.
-#[derive(Clone, Copy)]
-pub enum MaybeConstant {
-    False,
-    True,
-    Neither,
-}
+pub use answer::{Given, List, Refusal, is_done, told};
 
 // The largest id whose edges have a code.
 const MAX_ID: u32 = 2147483647;
 
 // The edge to a row. An id above 2147483647 has no code: 4.
-pub fn new(id: u32, complement: bool) -> EdgeAnswer
+pub fn new(id: u32, complement: bool) -> Result<u32, Refusal>
     ensures { edge_seen result ≡ new_call id complement }
 {
     if MAX_ID < id {
-        return EdgeAnswer {
-            answer: Answer::BadArgument,
-            edge: 0,
-        };
+        return Err(Refusal::BadArgument);
     }
-    EdgeAnswer {
-        answer: Answer::Done,
-        edge: not_if(2 * id, complement),
-    }
+    Ok(not_if(2 * id, complement))
 }
 
 // The row of an edge.
@@ -81,7 +53,7 @@ pub fn not_if(e: u32, flip: bool) -> u32
 pub fn constant(polarity: bool) -> u32
     ensures { result ≡ constant_of polarity }
 {
-    if polarity { 1 } else { 0 }
+    u32::from(polarity)
 }
 
 // Is it an edge to row 0?
@@ -97,48 +69,28 @@ pub fn is_constant(e: u32, polarity: bool) -> bool
     e == constant(polarity)
 }
 
-pub fn try_to_constant(e: u32) -> MaybeConstant
+// Which constant the edge is, if it is one.
+pub fn try_to_constant(e: u32) -> Option<bool>
     ensures { result ≡ which_constant e }
 {
-    if e == 1 {
-        return MaybeConstant::True;
+    match e {
+        0 => Some(false),
+        1 => Some(true),
+        _ => None,
     }
-    if e == 0 {
-        return MaybeConstant::False;
-    }
-    MaybeConstant::Neither
 }
 
 // The value of a constant edge. Another edge: 4.
-pub fn to_constant(e: u32) -> BoolAnswer
+pub fn to_constant(e: u32) -> Result<bool, Refusal>
     ensures { bool_seen result ≡ to_constant_call e }
 {
-    match try_to_constant(e) {
-        MaybeConstant::True => BoolAnswer {
-            answer: Answer::Done,
-            value: true,
-        },
-        MaybeConstant::False => BoolAnswer {
-            answer: Answer::Done,
-            value: false,
-        },
-        MaybeConstant::Neither => BoolAnswer {
-            answer: Answer::BadArgument,
-            value: false,
-        },
-    }
+    try_to_constant(e).ok_or(Refusal::BadArgument)
 }
 
 // The edge to the row that the map gives for its row, with its sign. A row outside the map, or mapped above 2147483647: 4.
-pub fn map(e: u32, map: &[u32]) -> EdgeAnswer
+pub fn map(e: u32, map: &[u32]) -> Result<u32, Refusal>
     ensures { edge_seen result ≡ map_call e map.now }
 {
-    let i = (e / 2) as usize;
-    if map.len() <= i {
-        return EdgeAnswer {
-            answer: Answer::BadArgument,
-            edge: 0,
-        };
-    }
-    new(map[i], compl(e))
+    let id = map.get(node_id(e) as usize).ok_or(Refusal::BadArgument)?;
+    new(*id, compl(e))
 }

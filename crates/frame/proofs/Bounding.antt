@@ -23,9 +23,8 @@ use Rattle.frame.specs.Frame.{Frame, frame, frame_row, frame_rows, frame_of, rai
 use Rattle.frame.specs.Steps.{need_of, new_leaf, new_leaves, most_of}
 use Rattle.frame.specs.Steps.{Bounded}
 use Rattle.frame.specs.Call.{FrameReady}
-use Rattle.frame.proofs.Mapping.{start_length}
 use Rattle.frame.proofs.Framing.{gate_of, by_kind, kind_of, turn, row_stays}
-use Rattle.frame.proofs.Ready.{as_many, same_input, part_long}
+use Rattle.frame.proofs.Ready.{as_many, same_input, started_map, started_long}
 use Rattle.frame.proofs.Valuing.{start_zero, leaf_some}
 
 -- ---- the new leaves, counted
@@ -177,18 +176,16 @@ module _ (at : Counts) (latches from : List ℕ) (n : Counts) (some : 0 < n.rows
   most_fits room e h = sym (fits_true room need (room_kept room (fits_known room most (ap (fits_in room) (sym e) ∙ h))))
 
 -- ---- the most, as it is counted: `map` is the map at the start
-pub most_told : (at : Counts) (latches from : List ℕ) (n : Counts) (marks : List ℕ) → n.rows ≤ length marks → {map part : List ℕ} {leaves : ℕ} {r : Counts}
-    → map ≡ start_map latches at.latches (length (take n.rows marks)) → part ≡ map → leaves ≡ new_leaves from part 0 (length part)
-    → r ≡ raised at n (at.rows + (n.rows - 1)) (at.inputs + leaves) → r ≡ most_of at latches from n
-most_told at latches from n marks h {map} {part} {leaves} {r} e q w z =
-    let o = start_map latches at.latches n.rows in
-    let m : part ≡ o = q ∙ (e ∙ ap (start_map latches at.latches) (part_long n.rows marks h)) in
-    let v : leaves ≡ new_leaves from o 0 n.rows
-    = w ∙ (ap (λ (p : List ℕ). new_leaves from p 0 (length p)) m ∙ ap (new_leaves from o 0) (start_length latches at.latches n.rows)) in
-    z ∙ ap (λ (x : ℕ). raised at n (at.rows + (n.rows - 1)) (at.inputs + x)) v
+module _ (a b : Lent) (marks : List ℕ) (h : b.counts.rows ≤ length marks) {map : List ℕ} (e : map ≡ start_map a.latches a.counts.latches (length (take b.counts.rows marks)))
+    {leaves : ℕ} (w : leaves ≡ new_leaves b.rows map 0 (length map)) where
+  pub leaves_few : leaves ≤ b.counts.rows
+  leaves_few = omega (arith, leaves_most b.rows map (length map) 0, started_long a b marks refl h e, w)
 
-pub leaves_few : (from : List ℕ) (n : ℕ) {map part : List ℕ} {leaves : ℕ} → part ≡ map → length map ≡ n → leaves ≡ new_leaves from part 0 (length part) → leaves ≤ n
-leaves_few from n {map} {part} {leaves} q k w = let e : length part ≡ n = ap length q ∙ k in omega (arith, leaves_most from part (length part) 0, e, w)
+  pub most_told : {r : Counts} → r ≡ raised a.counts b.counts (a.counts.rows + (b.counts.rows - 1)) (a.counts.inputs + leaves) → r ≡ most_of a.counts a.latches b.rows b.counts
+  most_told z =
+      let v : leaves ≡ new_leaves b.rows (start_map a.latches a.counts.latches b.counts.rows) 0 b.counts.rows
+      = w ∙ (ap (new_leaves b.rows map 0) (started_long a b marks refl h e) ∙ ap (λ (m : List ℕ). new_leaves b.rows m 0 b.counts.rows) (started_map a b marks refl h e)) in
+      z ∙ ap (λ (x : ℕ). raised a.counts b.counts (a.counts.rows + (b.counts.rows - 1)) (a.counts.inputs + x)) v
 
 -- ---- a frame that can be added is bounded
 pub bounded : (a b : Lent) (marks : ℕ) → FrameReady a b marks → Bounded a.latches a.counts.latches b.rows b.counts.rows

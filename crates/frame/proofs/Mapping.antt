@@ -6,8 +6,8 @@ use native.Mathlib.Nat.{eq-or-lt_of_le}
 use native.Mathlib.Numerals.{add-one}
 use mathlib.Core.Path.{◌≡◌, refl, ap, ◌∙◌}
 use mathlib.Core.Logic.{⊎_elim}
-use mathlib.Core.List.{List, ◌++◌, append-nil}
-use lib.ListN.{length, get_or, set, drop, replicate, drop_of_length-le, length-set, length-replicate}
+use mathlib.Core.List.{List}
+use lib.ListN.{length, get_or, set, replicate, length-set, length-replicate}
 use Rattle.edge.specs.Edges.{id_of}
 use Rattle.edge.proofs.Tests.{lt_or_le}
 use Rattle.rows.specs.Rows.{none}
@@ -17,12 +17,6 @@ use Rattle.graph.proofs.Latches.{latch_set_length, latch_kept, latch_set_at}
 use Rattle.output.specs.Writing.{written}
 use Rattle.output.proofs.Writing.{written_before, written_at_lem}
 use Rattle.frame.specs.Map.{mapped, nexts_mapped, start_map, mapped_of, next_set, nexts_set}
-
--- a list that was filled up to its end
-pub filled : (list : List ℕ) (v : ℕ) {i : ℕ} {now : List ℕ} → now ≡ replicate i v ++ drop i list → i ≡ length list → now ≡ replicate (length list) v
-filled list v {i} {now} e q =
-    let l : length list ≤ i = omega arith in
-    e ∙ (ap (λ (t : List ℕ). replicate i v ++ t) (drop_of_length-le list l) ∙ (append-nil (replicate i v) ∙ ap (λ (k : ℕ). replicate k v) q))
 
 -- ---- the map at the start
 pub nexts_mapped_length : (latches : List ℕ) (n : ℕ) (map : List ℕ) → length (nexts_mapped latches n map) ≡ length map

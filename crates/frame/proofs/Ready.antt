@@ -4,9 +4,10 @@ use Prim.Native.Nat.{ℕ, ◌+◌, ◌*◌, ◌≤◌, ◌<◌}
 use native.Mathlib.Omega.{arith}
 use mathlib.Core.Path.{◌≡◌, refl, sym, ap, ◌∙◌}
 use mathlib.Core.Bool.{Bool, true, false, not}
-use mathlib.Core.List.{List, [], ◌++◌}
-use lib.ListN.{length, get_or, take, drop, replicate, length-append, length-drop}
-use lib.Seq.{take_at, drop_at, length-take-le}
+use mathlib.Core.List.{List, []}
+use Rattle.std.specs.Prelude.{Some, None}
+use lib.ListN.{length, get_or, take}
+use lib.Seq.{length-take-le}
 use borrow.Author.Tests.{not-true, not-false}
 use Rattle.rows.specs.Sizes.{max_rows}
 use Rattle.graph.specs.declared.Counts.{Counts}
@@ -16,7 +17,7 @@ use Rattle.graph.specs.Check.{cleared}
 use Rattle.graph.proofs.Listed.{inputs_long, latch_at_lem}
 use Rattle.two_graphs.proofs.Pair.{cleared_fewer}
 use Rattle.renumber.specs.Renumber.{Lists, lists_of, graph_of}
-use Rattle.output.specs.Room.{has_room, Room}
+use Rattle.output.specs.Room.{room_in, fits_in, has_room, Room}
 use Rattle.renumber.proofs.Mapping.{lists_used}
 use Rattle.output.proofs.Fitting.{roomy}
 use Rattle.frame.specs.Map.{start_map, lists_grown}
@@ -26,7 +27,7 @@ use Rattle.frame.specs.Steps.{need_of}
 use Rattle.frame.specs.Steps.{Addable}
 use Rattle.frame.specs.Call.{SameStart, FrameReady, frame_seen, frame_call}
 use Rattle.frame.proofs.Mapping.{start_length}
-use Rattle.frame.proofs.Framing.{Same, rows_same, rows_map_long}
+use Rattle.frame.proofs.Framing.{Same, rows_same, rows_map_long, framed_from}
 
 -- ---- counts of right sizes can be added
 pub addable : (g : Lent) (marks : ℕ) → Sized g marks → Addable g.counts
@@ -100,56 +101,51 @@ need_same a b = rw (same.used, same.listed)
         (frame_rows b.rows 0 b.counts.rows (frame a.rows a.counts.rows a.inputs a.counts.inputs (start_map a.latches a.counts.latches b.counts.rows)))
     same = rows_same b.rows b.counts.rows 0 _ _ (record { used = refl; listed = refl; map = refl })
 
--- ---- the marks: their first words are the map
-module _ (n : ℕ) (marks : List ℕ) (h : n ≤ length marks) where
-  pub part_long : length (take n marks) ≡ n
-  part_long = length-take-le n marks h
+-- ---- the first words of the marks hold the map
+part_long : (n : ℕ) (marks : List ℕ) → n ≤ length marks → length (take n marks) ≡ n
+part_long n marks h = length-take-le n marks h
 
-  module _ (map : List ℕ) (long : length map ≡ n) where
-    pub map_part : take n (map ++ drop n marks) ≡ map
-    map_part = take_at map (drop n marks) n long
+module _ (a b : Lent) (marks : List ℕ) {g : Lent} (l : g ≡ a) where
+  pub part_within : FrameReady a b (length marks) → LatchesWithin g.latches g.counts.latches (length (take b.counts.rows marks))
+  part_within r = rw (part_long b.counts.rows marks r.from.marked, l) (latches_within a b (length marks) r)
 
-    pub map_cleared : cleared n (map ++ drop n marks) ≡ cleared n marks
-    map_cleared = ap (λ (l : List ℕ). replicate n 0 ++ l) (drop_at map (drop n marks) n long)
+  -- the map at the start: the target is read from `g`
+  module _ (h : b.counts.rows ≤ length marks) {map : List ℕ} (e : map ≡ start_map g.latches g.counts.latches (length (take b.counts.rows marks))) where
+    pub started_map : map ≡ start_map a.latches a.counts.latches b.counts.rows
+    started_map = e ∙ rw (part_long b.counts.rows marks h, l)
 
-    pub marks_long : length (map ++ drop n marks) ≡ length marks
-    marks_long = rw (length-append map (drop n marks), long, length-drop n marks) (omega arith)
+    pub started_long : length map ≡ b.counts.rows
+    started_long = ap (λ (m : List ℕ). length m) started_map ∙ start_length a.latches a.counts.latches b.counts.rows
 
-    pub marks_cover : n ≤ length (map ++ drop n marks)
-    marks_cover = rw (length-append map (drop n marks), long) (omega arith)
+    -- the rows that are built over it
+    pub built : (rows inputs : List ℕ) {f : Frame} → f ≡ frame_rows b.rows 0 (length map) (frame rows a.counts.rows inputs a.counts.inputs map)
+        → f ≡ frame_of rows inputs a.counts a.latches b.rows b.counts.rows
+    built rows inputs w = framed_from rows inputs a.counts a.latches b.rows b.counts.rows started_map started_long w
 
 -- ---- the dry run
-pub need_told : (at : Counts) (latches from : List ℕ) (n : Counts) (marks : List ℕ) → n.rows ≤ length marks → {f : Frame} {r : Counts}
-    → f ≡ frame_of [] [] at latches from (length (take n.rows marks)) → r ≡ raised at n f.used f.listed → r ≡ need_of at latches from n
-need_told at latches from n marks h {f} {r} e w =
-    let q : f ≡ frame_of [] [] at latches from n.rows = e ∙ ap (frame_of [] [] at latches from) (part_long n.rows marks h) in
-    w ∙ ap (λ (x : Frame). raised at n x.used x.listed) q
+pub need_told : (at : Counts) (latches from : List ℕ) (n : Counts) {f : Frame} {r : Counts} → f ≡ frame_of [] [] at latches from n.rows → r ≡ raised at n f.used f.listed
+    → r ≡ need_of at latches from n
+need_told at latches from n e w = w ∙ ap (λ (x : Frame). raised at n x.used x.listed) e
 
 -- ---- the frame, written
-module _ (a b : Lent) (marks : List ℕ) (h : b.counts.rows ≤ length marks) {f : Frame}
-    (e : f ≡ frame_of a.rows a.inputs a.counts a.latches b.rows (length (take b.counts.rows marks))) where
-  between : f ≡ frame_between a b
-  between = e ∙ ap (frame_of a.rows a.inputs a.counts a.latches b.rows) (part_long b.counts.rows marks h)
-
+module _ (a b : Lent) {f : Frame} (e : f ≡ frame_between a b) where
   pub map_long : length f.map ≡ b.counts.rows
-  map_long = ap (λ (x : Frame). length x.map) between ∙ frame_map_long a.rows a.inputs a.counts a.latches b.rows b.counts.rows
+  map_long = ap (λ (x : Frame). length x.map) e ∙ frame_map_long a.rows a.inputs a.counts a.latches b.rows b.counts.rows
 
-  pub whole : {ls : Lists} {n : Counts} → ls ≡ lists_grown (take b.counts.rows (f.map ++ drop b.counts.rows marks)) (lists_of a) a.counts (lists_of b) b.counts
-      → n ≡ raised a.counts b.counts f.used f.listed → graph_of f.rows f.inputs ls n ≡ framed a b
+  pub whole : {ls : Lists} {n : Counts} → ls ≡ lists_grown f.map (lists_of a) a.counts (lists_of b) b.counts → n ≡ raised a.counts b.counts f.used f.listed
+      → graph_of f.rows f.inputs ls n ≡ framed a b
   unfolding framed
-  whole {ls} {n} g r =
-      let p : ls ≡ lists_grown f.map (lists_of a) a.counts (lists_of b) b.counts
-      = g ∙ ap (λ (x : List ℕ). lists_grown x (lists_of a) a.counts (lists_of b) b.counts) (map_part b.counts.rows marks h f.map map_long) in
-      rw (p, r) (ap (λ (x : Frame). graph_of x.rows x.inputs (lists_grown x.map (lists_of a) a.counts (lists_of b) b.counts) (raised a.counts b.counts x.used x.listed)) between)
+  whole p r =
+      rw (p, r) (ap (λ (x : Frame). graph_of x.rows x.inputs (lists_grown x.map (lists_of a) a.counts (lists_of b) b.counts) (raised a.counts b.counts x.used x.listed)) e)
 
--- ---- the step: `need` is what was counted, and `fits` says whether there is room for it
-module _ (a b : Lent) (marks : List ℕ) {need : Counts} (n : need ≡ need_of a.counts a.latches b.rows b.counts) {fits : Bool} (t : fits ≡ has_room a need) {after : List ℕ}
-    (w : after ≡ cleared b.counts.rows marks) where
+-- ---- the step: `room` is the room of a, the target is read from `g`, and `fits` says whether there is room for what it needs
+module _ (a b : Lent) (marks : List ℕ) {room : Counts} (o : room ≡ room_in a) {g : Lent} (l : g ≡ a)
+    {fits : Bool} (t : fits ≡ fits_in room (need_of g.counts g.latches b.rows b.counts)) {after : List ℕ} (w : after ≡ cleared b.counts.rows marks) where
   told : fits ≡ frame_fits a b
   unfolding frame_fits
-  told = t ∙ ap (has_room a) (n ∙ need_same a b)
+  told = t ∙ rw (o, l) (ap (has_room a) (need_same a b))
 
-  pub frame_full : not fits ≡ true → frame_seen false a after ≡ frame_call a b marks
+  pub frame_full : not fits ≡ true → frame_seen None a after ≡ frame_call a b marks
   unfolding frame_call
   frame_full h = rw (sym told ∙ not-true fits h, w)
 
@@ -157,9 +153,9 @@ module _ (a b : Lent) (marks : List ℕ) {need : Counts} (n : need ≡ need_of a
   unfolding frame_fits
   frame_room h = roomy a (framed a b).counts (sym told ∙ not-false fits h)
 
-  pub frame_done : not fits ≡ false → {g : Lent} {last : List ℕ} → g ≡ framed a b → last ≡ cleared b.counts.rows after → frame_seen true g last ≡ frame_call a b marks
+  pub frame_done : not fits ≡ false → (n : Counts) {x : Lent} {last : List ℕ} → x ≡ framed a b → last ≡ cleared b.counts.rows after → frame_seen (Some n) x last ≡ frame_call a b marks
   unfolding frame_call
-  frame_done h e v =
+  frame_done h n e v =
       rw (sym told ∙ not-false fits h, e, v ∙ (ap (cleared b.counts.rows) w ∙ cleared_fewer b.counts.rows b.counts.rows marks (omega arith)))
 
 pub still_ready : (a b : Lent) {m n : ℕ} → FrameReady a b m → m ≡ n → FrameReady a b n

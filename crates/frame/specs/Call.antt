@@ -1,6 +1,8 @@
 -- What the step that adds a frame asks for, answers and writes.
 -- Assumes nothing.
-use Rattle.std.specs.Prelude.{ℕ, ◌*◌, ◌≤◌, ◌≡◌, List, Bool, cond}
+use Rattle.std.specs.Prelude.{ℕ, ◌*◌, ◌≤◌, ◌≡◌, List, Bool, cond, Option}
+use Rattle.std.specs.Option.{is_some}
+use Rattle.graph.specs.declared.Counts.{Counts}
 use Rattle.graph.specs.Latches.{latch_inputs}
 use Rattle.graph.specs.Graph.{Lent, Sized}
 use Rattle.graph.specs.Check.{cleared}
@@ -27,9 +29,10 @@ pub record FrameSeen : Type 0 where
   pub graph : Lent
   pub marks : List ℕ
 
-abbrev pub frame_seen : Bool → Lent → List ℕ → FrameSeen
-frame_seen fits graph marks = record { fits = fits; graph = graph; marks = marks }
+-- the step answers the counts with the frame, where it fits
+abbrev pub frame_seen : Option Counts → Lent → List ℕ → FrameSeen
+frame_seen r graph marks = record { fits = is_some r; graph = graph; marks = marks }
 
 -- where the frame does not fit nothing changes; the marks are cleared over the rows of b either way
 unfoldable pub frame_call : Lent → Lent → List ℕ → FrameSeen
-frame_call a b marks = frame_seen (frame_fits a b) (cond (frame_fits a b) (framed a b) a) (cleared b.counts.rows marks)
+frame_call a b marks = record { fits = frame_fits a b; graph = cond (frame_fits a b) (framed a b) a; marks = cleared b.counts.rows marks }

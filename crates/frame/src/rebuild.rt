@@ -4,15 +4,15 @@ ghost use Rattle.rows.specs.Sizes.{max_rows};
 ghost use Rattle.rows.specs.Rows.{row_at, AllRows};
 ghost use Rattle.gates.specs.Steps.{step_limit};
 ghost use Rattle.gates.specs.Gates.{leaf_added};
-ghost use Rattle.frame.specs.Steps.{LatchesWithin};
-ghost use Rattle.frame.specs.Frame.{frame, frame_row, frame_rows, frame_of};
+ghost use Rattle.frame.specs.Frame.{frame, frame_row, frame_rows};
 
-use crate::map::{mapped, start_map};
+use crate::map::mapped;
 use gates::{add_and, add_row};
 use graph::Counts;
 use rows::kinds::NONE;
 
-// How many rows are used, and how many inputs are listed.
+// How many rows are used, and how many inputs are listed. It goes in and comes back by value, beside the slices: as one struct behind a `&mut` they lie in memory, which costs two to three
+// instructions a row, more than `unroll_to` can spare.
 #[derive(Clone, Copy)]
 pub struct Reached {
     pub used: usize,
@@ -37,11 +37,11 @@ const EDGES_END: u32 = 4294967293;
 
 // Row i. It is a row, so its first word tells whether it is a gate.
 fn frame_row(
-    from: &[u32],
-    i: usize,
     rows: &mut [u32],
     inputs: &mut [u32],
     at: Reached,
+    from: &[u32],
+    i: usize,
     map: &mut [u32],
 ) -> Reached
     requires i_value { (row_at from.now i ≡ true) × (i ≤ max_rows) }
@@ -54,10 +54,7 @@ fn frame_row(
     if a < EDGES_END {
         let g = add_and(rows, at.used, mapped(map, a), mapped(map, b));
         map[i] = g.edge;
-        return Reached {
-            used: g.used,
-            inputs: at.inputs,
-        };
+        return Reached { used: g.used, ..at };
     }
     if map[i] == NONE {
         add_leaf(rows, inputs, at);
@@ -70,67 +67,25 @@ fn frame_row(
     at
 }
 
-// All rows that the map has.
-fn frame_rows(
-    from: &[u32],
+// The rows of `from` that the map has, behind the entries that `at` counts.
+pub fn frame_rows(
     rows: &mut [u32],
     inputs: &mut [u32],
-    at: Reached,
+    at: Counts,
+    from: &[u32],
     map: &mut [u32],
 ) -> Reached
     requires all_rows { AllRows from.now (length map.old) }
     requires map_in_bounds { (2 * length map.old ≤ length from.now) × (length map.old ≤ max_rows) }
-    requires used_le_max_rows { (at.used ≤ max_rows) × (at.inputs ≤ max_rows) }
-    ensures { frame rows.new result.used inputs.new result.inputs map.new ≡ frame_rows from.now 0 (length map.old) (frame rows.old at.used inputs.old at.inputs map.old) }
-{
-    let n = map.len();
-    let mut used = at.used;
-    let mut listed = at.inputs;
-    for i in 0..n {
-        let next = frame_row(
-            from,
-            i,
-            rows,
-            inputs,
-            Reached {
-                used,
-                inputs: listed,
-            },
-            map,
-        );
-        used = next.used;
-        listed = next.inputs;
-    }
-    Reached {
-        used,
-        inputs: listed,
-    }
-}
-
-// The rows of `from` that the map has, behind the entries that `at` counts, by a map that starts with the latches' nexts.
-pub fn frame_of(
-    rows: &mut [u32],
-    inputs: &mut [u32],
-    at: Counts,
-    latches: &[u32],
-    from: &[u32],
-    map: &mut [u32],
-) -> Reached
-    requires all_rows { AllRows from.now (length map.old) }
-    requires map_nonzero { (0 < length map.old) × (2 * length map.old ≤ length from.now) × (length map.old ≤ max_rows) }
     requires rows_le_max_rows { (at.rows ≤ max_rows) × (at.inputs ≤ max_rows) }
-    requires latches_within { LatchesWithin latches.now at.latches (length map.old) }
-    ensures { frame rows.new result.used inputs.new result.inputs map.new ≡ frame_of rows.old inputs.old at latches.now from.now (length map.old) }
+    ensures { frame rows.new result.used inputs.new result.inputs map.new ≡ frame_rows from.now 0 (length map.old) (frame rows.old at.rows inputs.old at.inputs map.old) }
 {
-    start_map(latches, at.latches, map);
-    frame_rows(
-        from,
-        rows,
-        inputs,
-        Reached {
-            used: at.rows,
-            inputs: at.inputs,
-        },
-        map,
-    )
+    let mut reached = Reached {
+        used: at.rows,
+        inputs: at.inputs,
+    };
+    for i in 0..map.len() {
+        reached = frame_row(rows, inputs, reached, from, i, map);
+    }
+    reached
 }

@@ -1,13 +1,13 @@
 -- Laws of stores in a run, and of the words of clauses.
 -- Assumes nothing.
-use Prim.Native.Nat.{ℕ, suc, ◌+◌, ◌<◌}
+use Prim.Native.Nat.{ℕ, zero, suc, ◌+◌, ◌*◌, ◌≤◌, ◌<◌}
 use native.Mathlib.Omega.{arith}
 use native.Mathlib.Nat.{add-zero}
-use native.Mathlib.Numerals.{towards_suc}
+use native.Mathlib.Numerals.{add-one}
 use mathlib.Core.Path.{◌≡◌, refl, sym, ap, ◌∙◌}
 use mathlib.Core.List.{List, [], ◌∷◌, ◌++◌, map}
-use lib.ListN.{length, get_or, set, length-append}
-use lib.Seq.{sets}
+use lib.ListN.{length, get_or, set, drop, drop_of_length-le, get_or-map, length-append, length-map}
+use lib.Seq.{sets, drop-cons}
 use Rattle.edge.specs.Edges.{complement}
 use Rattle.gate_clauses.specs.declared.Shape.{Shape}
 use Rattle.gate_clauses.specs.declared.Shape.TheVariants.{Unwritten, Plain, Xor, Ite}
@@ -26,20 +26,19 @@ pub unit_long : length (words (unit ∷ [])) ≡ 2
 unfolding words
 unit_long = refl
 
-pub put_unit : (l : List ℕ) → set (set l 0 1) 1 1 ≡ sets l 0 (words (unit ∷ []))
+pub put_unit : (l : List ℕ) → sets l 0 (1 ∷ 1 ∷ []) ≡ sets l 0 (words (unit ∷ []))
 unfolding words
 put_unit l = refl
 
-pub put_two : (l : List ℕ) (at x y : ℕ) → set (set (set l at 2) (at + 1) x) (at + 2) y ≡ sets l at (2 ∷ x ∷ y ∷ [])
-put_two l at x y = simp towards_suc
+-- the words of a list from j on, by what is left of it
+module _ (l xs : List ℕ) (j i : ℕ) where
+  pub left_turn : i < length xs → sets (set l (j + i) (get_or xs i 0)) (j + (i + 1)) (drop (i + 1) xs) ≡ sets l (j + i) (drop i xs)
+  left_turn h =
+      let k : j + (i + 1) ≡ suc (j + i) = omega arith in
+      rw (drop-cons xs i 0 h, k, add-one) refl
 
-pub put_three : (l c : List ℕ) (at : ℕ) → length c ≡ 3
-    → set (set (set (set l at 3) (at + 1) (get_or c 0 0)) (at + 2) (get_or c 1 0)) (at + 3) (get_or c 2 0) ≡ sets l at (3 ∷ c)
-put_three l [] at h = absurd (omega arith)
-put_three l (x ∷ []) at h = absurd (omega arith)
-put_three l (x ∷ y ∷ []) at h = absurd (omega arith)
-put_three l (x ∷ y ∷ z ∷ []) at h = simp towards_suc
-put_three l (x ∷ y ∷ z ∷ w ∷ c) at h = absurd (omega arith)
+  pub left_end : length xs ≤ i → sets l (j + i) (drop i xs) ≡ l
+  left_end h = rw (drop_of_length-le xs h) refl
 
 -- ---- clauses one after the other: c is written, and the others follow
 next : (l : List ℕ) {o : List ℕ} (c : List ℕ) (cs : List (List ℕ)) (i j k : ℕ) → length c ≡ k → j ≡ i + suc k → o ≡ sets l i (k ∷ c) → sets o j (words cs) ≡ sets l i (words (c ∷ cs))
@@ -50,20 +49,29 @@ last : (o : List ℕ) (j : ℕ) → o ≡ sets o j (words [])
 unfolding words
 last o j = refl
 
-pub put_four : (cs : List (List ℕ)) (z l o₁ o₂ o₃ o₄ : List ℕ) (at : ℕ) → map length cs ≡ 3 ∷ 3 ∷ 3 ∷ 3 ∷ []
-    → o₁ ≡ sets l at (3 ∷ get_or cs 0 z) → o₂ ≡ sets o₁ (at + 4) (3 ∷ get_or cs 1 z) → o₃ ≡ sets o₂ (at + 8) (3 ∷ get_or cs 2 z) → o₄ ≡ sets o₃ (at + 12) (3 ∷ get_or cs 3 z)
-    → o₄ ≡ sets l at (words cs)
-put_four [] z l o₁ o₂ o₃ o₄ at h p q r s = cc
-put_four (a ∷ []) z l o₁ o₂ o₃ o₄ at h p q r s = cc
-put_four (a ∷ b ∷ []) z l o₁ o₂ o₃ o₄ at h p q r s = cc
-put_four (a ∷ b ∷ c ∷ []) z l o₁ o₂ o₃ o₄ at h p q r s = cc
-put_four (a ∷ b ∷ c ∷ d ∷ []) z l o₁ o₂ o₃ o₄ at h p q r s =
-    last o₄ (at + 16)
-    ∙ (next o₃ d [] (at + 12) (at + 16) 3 (cc) (omega arith) s
-    ∙ (next o₂ c (d ∷ []) (at + 8) (at + 12) 3 (cc) (omega arith) r
-    ∙ (next o₁ b (c ∷ d ∷ []) (at + 4) (at + 8) 3 (cc) (omega arith) q
-    ∙ next l a (b ∷ c ∷ d ∷ []) at (at + 4) 3 (cc) (omega arith) p)))
-put_four (a ∷ b ∷ c ∷ d ∷ e ∷ cs) z l o₁ o₂ o₃ o₄ at h p q r s = cc
+-- four clauses of three literals, by what is left of them
+three_at : (cs : List (List ℕ)) (z : List ℕ) (i : ℕ) → map length cs ≡ 3 ∷ 3 ∷ 3 ∷ 3 ∷ [] → i < length cs → length (get_or cs i z) ≡ 3
+three_at cs z i h l = rw (← get_or-map length cs i z, h) (go i (omega (arith, l, ap length h, length-map cs length)))
+  where
+    go : (k : ℕ) → k < 4 → get_or (3 ∷ 3 ∷ 3 ∷ 3 ∷ []) k (length z) ≡ 3
+    go zero m = refl
+    go (suc zero) m = refl
+    go (suc (suc zero)) m = refl
+    go (suc (suc (suc zero))) m = refl
+    go (suc (suc (suc (suc k)))) m = absurd (omega arith)
+
+pub is_four : (cs : List (List ℕ)) → map length cs ≡ 3 ∷ 3 ∷ 3 ∷ 3 ∷ [] → length cs ≡ 4
+is_four cs h = sym (length-map cs length) ∙ ap length h
+
+module _ (l : List ℕ) (cs : List (List ℕ)) (z : List ℕ) (h : map length cs ≡ 3 ∷ 3 ∷ 3 ∷ 3 ∷ []) (j i : ℕ) where
+  pub four_turn : {o : List ℕ} → i < 4 → o ≡ sets l (j + 4 * i) (3 ∷ get_or cs i z) → sets o (j + 4 * (i + 1)) (words (drop (i + 1) cs)) ≡ sets l (j + 4 * i) (words (drop i cs))
+  four_turn k e =
+      let n : i < length cs = omega (arith, is_four cs h) in
+      rw (drop-cons cs i z n, add-one) (next l (get_or cs i z) (drop (suc i) cs) (j + 4 * i) (j + 4 * suc i) 3 (three_at cs z i h n) (omega arith) e)
+
+  pub four_end : 4 ≤ i → sets l (j + 4 * i) (words (drop i cs)) ≡ l
+  unfolding words
+  four_end k = let n : length cs ≤ i = omega (arith, is_four cs h) in rw (drop_of_length-le cs n) refl
 
 pub four_long : (cs : List (List ℕ)) → map length cs ≡ 3 ∷ 3 ∷ 3 ∷ 3 ∷ [] → length (words cs) ≡ 16
 unfolding words

@@ -11,7 +11,7 @@ ghost use Rattle.gate_clauses.specs.Shapes.{is_xor, ite_or, pairing, recognised,
 use edge::{compl, node_id, not};
 use rows::kinds::is_gate;
 
-// What a row is written as, with its operands. A row that is no gate, or not referenced, is not written.
+// What a row is written as, with its operands. A row that is no gate, or not referenced, is not written: a shape as the others, since the promises give each its clauses.
 #[derive(Clone, Copy)]
 pub enum Shape {
     Unwritten,

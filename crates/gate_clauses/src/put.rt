@@ -15,29 +15,18 @@ pub fn put_unit(clauses: &mut [u32])
     if clauses.len() < 2 {
         return;
     }
-    clauses[0] = 1;
-    clauses[1] = 1;
+    put_clause(clauses, 0, [1]);
 }
 
-// A clause of two literals.
-fn put_two(clauses: &mut [u32], at: usize, x: u32, y: u32)
-    requires { at + 3 ≤ length clauses.old }
-    ensures { clauses.new ≡ sets clauses.old at (2 ∷ x ∷ y ∷ []) }
+// A clause of N literals.
+fn put_clause<const N: usize>(clauses: &mut [u32], at: usize, literals: [u32; N])
+    requires { (N ≤ 3) × (at + N + 1 ≤ length clauses.old) }
+    ensures { clauses.new ≡ sets clauses.old at (N ∷ literals.entry) }
 {
-    clauses[at] = 2;
-    clauses[at + 1] = x;
-    clauses[at + 2] = y;
-}
-
-// A clause of three literals.
-fn put_three(clauses: &mut [u32], at: usize, c: [u32; 3])
-    requires { at + 4 ≤ length clauses.old }
-    ensures { clauses.new ≡ sets clauses.old at (3 ∷ c) }
-{
-    clauses[at] = 3;
-    clauses[at + 1] = c[0];
-    clauses[at + 2] = c[1];
-    clauses[at + 3] = c[2];
+    clauses[at] = N as u32;
+    for (i, literal) in literals.iter().enumerate() {
+        clauses[at + 1 + i] = *literal;
+    }
 }
 
 // Four clauses of three literals. The place behind them.
@@ -51,14 +40,9 @@ fn put_four(clauses: &mut [u32], at: usize, four: [[u32; 3]; 4]) -> usize
     if clauses.len() < end {
         return end;
     }
-    let c0 = four[0];
-    put_three(clauses, at, c0);
-    let c1 = four[1];
-    put_three(clauses, at + 4, c1);
-    let c2 = four[2];
-    put_three(clauses, at + 8, c2);
-    let c3 = four[3];
-    put_three(clauses, at + 12, c3);
+    for (i, clause) in four.iter().enumerate() {
+        put_clause(clauses, at + 4 * i, *clause);
+    }
     end
 }
 
@@ -75,9 +59,9 @@ fn put_plain(clauses: &mut [u32], at: usize, g: u32, a: u32, b: u32) -> usize
     let ng = not(g);
     let na = not(a);
     let nb = not(b);
-    put_two(clauses, at, ng, a);
-    put_two(clauses, at + 3, ng, b);
-    put_three(clauses, at + 6, [g, na, nb]);
+    put_clause(clauses, at, [ng, a]);
+    put_clause(clauses, at + 3, [ng, b]);
+    put_clause(clauses, at + 6, [g, na, nb]);
     end
 }
 

@@ -14,8 +14,7 @@ use borrow.Rule.Slice.PartMut.{put_mid, mid_of}
 use borrow.Author.Tests.{le-leb, lt-leb, eq-eqb, ne_eqb}
 use Rattle.edge.specs.Edges.{id_of, complement}
 use Rattle.edge.proofs.Meaning.{complement_parts}
-use Rattle.gates.specs.declared.Fold.{Fold}
-use Rattle.gates.specs.declared.Fold.TheVariants.{To, Gate}
+use Rattle.std.specs.Prelude.{Option, Some, None}
 use Rattle.gates.specs.Gates.{State, state, row_added, first, second, add_gate, folded, or_gate, add_and, add_step, step, steps}
 
 -- ---- the row writer, over the part of the rows that is free
@@ -58,22 +57,22 @@ module _ (rows : List ℕ) (used a b : ℕ) where
       go true = length-set (set rows (2 * used) a) (2 * used + 1) b ∙ length-set rows (2 * used) a
       go false = refl
 
-pub gate_added_lem : (rows : List ℕ) (used a b : ℕ) {x y : ℕ} (now : List ℕ) → x ≡ first a b → y ≡ second a b → now ≡ row_added rows used x y
+pub gate_added_lem : (rows : List ℕ) (used a b : ℕ) {o : ℕ × ℕ} (now : List ℕ) → o ≡ (first a b, second a b) → now ≡ row_added rows used o.0 o.1
     → state now (used + 1) (2 * used) ≡ add_gate rows used a b
 unfolding add_gate
-gate_added_lem rows used a b now p q e = rw (e, p, q)
+gate_added_lem rows used a b now p e = rw (e, p)
 
 -- ---- folding, of edges in order
-pub fold_true : (a b : ℕ) → a ≡ 1 → To b ≡ folded a b
+pub fold_true : (a b : ℕ) → a ≡ 1 → Some b ≡ folded a b
 unfolding folded
 fold_true a b e = rw (eq-eqb a 1 e)
 
-pub fold_false : (a b : ℕ) → a < 2 → (a ≡ 1 → ⊥) → To 0 ≡ folded a b
+pub fold_false : (a b : ℕ) → a < 2 → (a ≡ 1 → ⊥) → Some 0 ≡ folded a b
 unfolding folded
 fold_false a b l h = let e : a ≡ 0 = omega arith in rw (ne_eqb a 1 h, eq-eqb a 0 e)
 
 module _ (a b : ℕ) (s : id_of a ≤ id_of b) (l : 2 ≤ a) where
-  no_constants : (f : Fold) → f ≡ cond (eqb a b) (To a) (cond (eqb a (complement b)) (To 0) Gate) → f ≡ folded a b
+  no_constants : (f : Option ℕ) → f ≡ cond (eqb a b) (Some a) (cond (eqb a (complement b)) (Some 0) None) → f ≡ folded a b
   unfolding folded
   no_constants f e =
       let h : a ≡ 1 → ⊥ = λ (z : a ≡ 1). omega arith in
@@ -82,30 +81,33 @@ module _ (a b : ℕ) (s : id_of a ≤ id_of b) (l : 2 ≤ a) where
       let k : b ≡ 0 → ⊥ = λ (z : b ≡ 0). omega arith in
       rw (ne_eqb a 1 h, ne_eqb a 0 i, ne_eqb b 1 j, ne_eqb b 0 k) e
 
-  pub fold_same : a ≡ b → To a ≡ folded a b
-  fold_same e = no_constants (To a) (rw (eq-eqb a b e))
+  pub fold_same : a ≡ b → Some a ≡ folded a b
+  fold_same e = no_constants (Some a) (rw (eq-eqb a b e))
 
-  pub fold_opposite : id_of a ≡ id_of b → (a ≡ b → ⊥) → To 0 ≡ folded a b
+  pub fold_opposite : id_of a ≡ id_of b → (a ≡ b → ⊥) → Some 0 ≡ folded a b
   fold_opposite e h =
       let parts = complement_parts b in
       let q : a ≡ complement b = omega arith in
-      no_constants (To 0) (rw (ne_eqb a b h, eq-eqb a (complement b) q))
+      no_constants (Some 0) (rw (ne_eqb a b h, eq-eqb a (complement b) q))
 
-  pub fold_gate : (id_of a ≡ id_of b → ⊥) → Gate ≡ folded a b
+  pub fold_gate : (id_of a ≡ id_of b → ⊥) → None ≡ folded a b
   fold_gate h =
       let parts = complement_parts b in
       let m : a ≡ b → ⊥ = λ (z : a ≡ b). omega arith in
       let q : a ≡ complement b → ⊥ = λ (z : a ≡ complement b). omega arith in
-      no_constants Gate (rw (ne_eqb a b m, ne_eqb a (complement b) q))
+      no_constants None (rw (ne_eqb a b m, ne_eqb a (complement b) q))
 
-module _ (rows : List ℕ) (used a b : ℕ) {x y : ℕ} {f : Fold} (p : x ≡ first a b) (q : y ≡ second a b) (r : f ≡ folded x y) where
-  pub and_to : {e : ℕ} → f ≡ To e → state rows used e ≡ add_and rows used a b
-  unfolding add_and
-  and_to t = rw (← p, ← q, ← r, t)
+module _ (rows : List ℕ) (used a b : ℕ) {o : ℕ × ℕ} {f : Option ℕ} (p : o ≡ (first a b, second a b)) (q : f ≡ folded o.0 o.1) where
+  fold : folded (first a b) (second a b) ≡ f
+  fold = let r = sym q in rw p at r
 
-  pub and_gate : f ≡ Gate → add_gate rows used a b ≡ add_and rows used a b
+  pub and_to : {e : ℕ} → f ≡ Some e → state rows used e ≡ add_and rows used a b
   unfolding add_and
-  and_gate t = rw (← p, ← q, ← r, t)
+  and_to t = rw (fold, t)
+
+  pub and_gate : f ≡ None → add_gate rows used a b ≡ add_and rows used a b
+  unfolding add_and
+  and_gate t = rw (fold, t)
 
 -- ---- one step: it takes at most one row, changes no length, and what it takes and builds hangs on the edges alone
 pub record Like (x y : State) : Type 0 where
@@ -125,9 +127,9 @@ pub and_sized : (rows : List ℕ) (used a b : ℕ) → Sized rows used 1 (add_an
 unfolding add_and
 and_sized rows used a b = go (folded (first a b) (second a b))
   where
-    go : (f : Fold) → Sized rows used 1 (or_gate f rows used (add_gate rows used a b))
-    go (To e) = record { more = omega arith; most = omega arith; long = refl }
-    go Gate = gate_sized rows used a b
+    go : (f : Option ℕ) → Sized rows used 1 (or_gate f rows used (add_gate rows used a b))
+    go (Some e) = record { more = omega arith; most = omega arith; long = refl }
+    go None = gate_sized rows used a b
 
 pub step_sized : (trivial : Bool) (rows : List ℕ) (used a b : ℕ) → Sized rows used 1 (add_step trivial rows used a b)
 unfolding add_step
@@ -142,9 +144,9 @@ pub and_like : (x y : List ℕ) (used a b : ℕ) → Like (add_and x used a b) (
 unfolding add_and
 and_like x y used a b = go (folded (first a b) (second a b))
   where
-    go : (f : Fold) → Like (or_gate f x used (add_gate x used a b)) (or_gate f y used (add_gate y used a b))
-    go (To e) = record { used = refl; edge = refl }
-    go Gate = gate_like x y used a b
+    go : (f : Option ℕ) → Like (or_gate f x used (add_gate x used a b)) (or_gate f y used (add_gate y used a b))
+    go (Some e) = record { used = refl; edge = refl }
+    go None = gate_like x y used a b
 
 step_like : (trivial : Bool) (x y : List ℕ) (used a b : ℕ) → Like (add_step trivial x used a b) (add_step trivial y used a b)
 unfolding add_step

@@ -16,8 +16,7 @@ use Rattle.edge.proofs.Meaning.{complementing}
 use Rattle.edge.proofs.Tests.{lt_or_le}
 use Rattle.rows.specs.Sizes.{rows_lent}
 use Rattle.rows.specs.Rows.{none, word0, word1, is_false_row, is_leaf, is_gate, is_row, row_at}
-use Rattle.gates.specs.declared.Fold.{Fold}
-use Rattle.gates.specs.declared.Fold.TheVariants.{To, Gate}
+use Rattle.std.specs.Prelude.{Option, Some, None}
 use Rattle.gates.specs.Gates.{State, state, row_added, Ordered, first, second, add_gate, folded, or_gate, add_and, add_step, step, steps}
 use Rattle.gates.specs.Lists.{all_of, signed, list_of, eq_of}
 use Rattle.gates.specs.Meaning.{Grows, AllUsed}
@@ -83,15 +82,15 @@ module _ (rows : List ℕ) (used a b : ℕ) (some : 0 < used) (p : id_of a < use
       row_grows rows used (first a b) (second a b) room (gate_row used (first a b) (second a b) o.0 o.1)
 
   -- the folded edge is one of the two, or false
-  abbrev Within : Fold → Type 0
-  Within (To e) = id_of e < used
-  Within Gate = 0 < used
+  abbrev Within : Option ℕ → Type 0
+  Within (Some e) = id_of e < used
+  Within None = 0 < used
 
   within : (x y : ℕ) → id_of x < used → id_of y < used → Within (folded x y)
   unfolding folded
   within x y m n = go (eqb x 1) (eqb x 0) (eqb y 1) (eqb y 0) (eqb x y) (eqb x (complement y))
     where
-      go : (s t u v w z : Bool) → Within (cond s (To y) (cond t (To 0) (cond u (To x) (cond v (To 0) (cond w (To x) (cond z (To 0) Gate))))))
+      go : (s t u v w z : Bool) → Within (cond s (Some y) (cond t (Some 0) (cond u (Some x) (cond v (Some 0) (cond w (Some x) (cond z (Some 0) None))))))
       go true t u v w z = n
       go false true u v w z = some
       go false false true v w z = m
@@ -104,9 +103,9 @@ module _ (rows : List ℕ) (used a b : ℕ) (some : 0 < used) (p : id_of a < use
   unfolding add_and add_gate
   and_grows = let o = order_used used a b p q in go (folded (first a b) (second a b)) (within (first a b) (second a b) o.0 o.1)
     where
-      go : (f : Fold) → Within f → (or_gate f rows used (add_gate rows used a b)).used ≤ rows_lent rows → Grows rows used (or_gate f rows used (add_gate rows used a b))
-      go (To e) w l = record { more = omega arith; long = refl; kept = λ k m. refl; good = λ i m n. absurd (omega arith); edge = w }
-      go Gate w l = gate_grows l
+      go : (f : Option ℕ) → Within f → (or_gate f rows used (add_gate rows used a b)).used ≤ rows_lent rows → Grows rows used (or_gate f rows used (add_gate rows used a b))
+      go (Some e) w l = record { more = omega arith; long = refl; kept = λ k m. refl; good = λ i m n. absurd (omega arith); edge = w }
+      go None w l = gate_grows l
 
   pub step_grows : (trivial : Bool) → (add_step trivial rows used a b).used ≤ rows_lent rows → Grows rows used (add_step trivial rows used a b)
   unfolding add_step add_gate
@@ -127,9 +126,9 @@ module _ (rows : List ℕ) (used a b : ℕ) (room : used + 1 ≤ rows_lent rows)
   unfolding add_and
   and_ordered = go (folded (first a b) (second a b))
     where
-      go : (f : Fold) → (or_gate f rows used (add_gate rows used a b)).used ≡ used + 1 → InRow (or_gate f rows used (add_gate rows used a b))
-      go (To e) more = absurd (omega arith)
-      go Gate more = gate_ordered
+      go : (f : Option ℕ) → (or_gate f rows used (add_gate rows used a b)).used ≡ used + 1 → InRow (or_gate f rows used (add_gate rows used a b))
+      go (Some e) more = absurd (omega arith)
+      go None more = gate_ordered
 
   pub step_ordered : (trivial : Bool) → (add_step trivial rows used a b).used ≡ used + 1 → InRow (add_step trivial rows used a b)
   unfolding add_step

@@ -13,14 +13,10 @@ use Rattle.gates.specs.Gates.{State, state, add_and, add_step, step, steps}
 use Rattle.gates.specs.Lists.{all_of, signed, turned, list_of, eq_of}
 use Rattle.gates.proofs.Building.{Like, Sized, and_sized, and_like, step_sized, steps_sized, steps_like}
 
--- ---- the loop over a list, where s stands before entry i
+-- ---- the loop over a list behind its first edge
 module _ (trivial or : Bool) (rows : List ℕ) (used : ℕ) (es : List ℕ) where
   abbrev whole : State
   whole = all_of trivial rows used (signed or es)
-
-  -- s, and what is left
-  abbrev from : ℕ → State → State
-  from i s = steps trivial s (signed or (drop i es))
 
   pub none_built : {e : ℕ} → length es ≡ 0 → e ≡ complement_if or 1 → state rows used e ≡ list_of trivial or rows used es
   unfolding list_of all_of
@@ -30,22 +26,20 @@ module _ (trivial or : Bool) (rows : List ℕ) (used : ℕ) (es : List ℕ) wher
       go [] z = refl
       go (x ∷ xs) z = absurd (omega arith)
 
-  pub first_built : {e : ℕ} → 0 < length es → e ≡ complement_if or (get_or es 0 0) → from 1 (state rows used e) ≡ whole
+  pub first_built : {x e : ℕ} {xs : List ℕ} → es ≡ x ∷ xs → e ≡ complement_if or x → steps trivial (state rows used e) (signed or xs) ≡ whole
   unfolding all_of
-  first_built l p = rw p (go es l)
-    where
-      go : (xs : List ℕ) → 0 < length xs → steps trivial (state rows used (complement_if or (get_or xs 0 0))) (signed or (drop 1 xs)) ≡ all_of trivial rows used (signed or xs)
-      go [] l = absurd (omega arith)
-      go (x ∷ xs) l = refl
+  first_built q p = rw (p, q)
 
-  module _ (i : ℕ) (s : State) (inv : from i s ≡ whole) where
-    pub next_built : i < length es → {e : ℕ} → e ≡ complement_if or (get_or es i 0) → (t : State) → t ≡ step trivial s e → from (i + 1) t ≡ whole
+  -- s stands before entry i of the rest
+  module _ (rest : List ℕ) (i : ℕ) (s : State) (inv : steps trivial s (signed or (drop i rest)) ≡ whole) where
+    pub next_built : i < length rest → {e : ℕ} → e ≡ complement_if or (get_or rest i 0) → (t : State) → t ≡ step trivial s e
+        → steps trivial t (signed or (drop (i + 1) rest)) ≡ whole
     unfolding steps
-    next_built l p t q = rw (q, p, add-one) (rw (drop-cons es i 0 l) at inv)
+    next_built l p t q = rw (q, p, add-one) (rw (drop-cons rest i 0 l) at inv)
 
-    pub last_built : length es ≤ i → {e : ℕ} → e ≡ complement_if or s.edge → state s.rows s.used e ≡ list_of trivial or rows used es
+    pub last_built : length rest ≤ i → {e : ℕ} → e ≡ complement_if or s.edge → state s.rows s.used e ≡ list_of trivial or rows used es
     unfolding list_of steps
-    last_built l p = rw (p, ← inv, drop_of_length-le es l)
+    last_built l p = rw (p, ← inv, drop_of_length-le rest l)
 
 pub next_sized : (trivial : Bool) (s t : State) (e : ℕ) → t ≡ step trivial s e → Sized s.rows s.used 1 t
 next_sized trivial s t e q = rw q (step_sized trivial s.rows s.used s.edge e)

@@ -3,7 +3,7 @@
 use Prim.Native.Nat.{ℕ, ◌+◌, ◌*◌, ◌≤◌, ◌<◌}
 use native.Mathlib.Omega.{arith}
 use mathlib.Core.Path.{◌≡◌, refl, sym, ap, ◌∙◌}
-use mathlib.Core.Bool.{Bool, true, false, cond, not, ◌&&◌, ◌||◌, and_self, and_comm, and_assoc}
+use mathlib.Core.Bool.{Bool, true, false, cond, not, ◌&&◌, ◌||◌, and_self, and_comm, and_assoc, and-true, and-false, not-and_self}
 use mathlib.Core.List.{List, [], ◌∷◌}
 use lib.Dec.{eqb}
 use borrow.Author.Tests.{eqb-true}
@@ -13,8 +13,7 @@ use Rattle.edge.proofs.Meaning.{complementing, constants, coding}
 use Rattle.rows.specs.Sizes.{rows_lent}
 use Rattle.rows.specs.Value.{value}
 use Rattle.rows.proofs.Value.{value_zero, value_gate, local}
-use Rattle.gates.specs.declared.Fold.{Fold}
-use Rattle.gates.specs.declared.Fold.TheVariants.{To, Gate}
+use Rattle.std.specs.Prelude.{Option, Some, None}
 use Rattle.gates.specs.Gates.{State, state, row_added, first, second, add_gate, folded, or_gate, add_and, add_step, step, steps}
 use Rattle.gates.specs.Lists.{all_of, signed, list_of, eq_of}
 use Rattle.gates.specs.Meaning.{Grows, AllUsed, all_true, any_true}
@@ -36,39 +35,27 @@ grows_edge rows used s g leaf e l = rw (grows_value rows used s g leaf (id_of e)
 -- ---- folding
 module _ (v : ℕ → Bool) (z : v 0 ≡ false) where
   -- the value of what an AND folds to, and of the gate where it does not
-  abbrev fold_value : Fold → Bool → Bool
-  fold_value (To e) gate = edge_value v e
-  fold_value Gate gate = gate
+  abbrev fold_value : Option ℕ → Bool → Bool
+  fold_value (Some e) gate = edge_value v e
+  fold_value None gate = gate
 
   fold_value_lem : (a b : ℕ) → fold_value (folded a b) (edge_value v a && edge_value v b) ≡ edge_value v a && edge_value v b
   unfolding folded
   fold_value_lem a b = go (eqb a 1) (eqb a 0) (eqb b 1) (eqb b 0) (eqb a b) (eqb a (complement b)) refl refl refl refl refl refl
     where
-      none : (x : Bool) → not x && x ≡ false
-      none true = refl
-      none false = refl
-
-      right : (x : Bool) → x && false ≡ false
-      right true = refl
-      right false = refl
-
-      itself : (x : Bool) → x && true ≡ x
-      itself true = refl
-      itself false = refl
-
       constant : (b : Bool) → edge_value v (constant_of b) ≡ b
       constant = constants.means v z
 
       go : (s t u w x y : Bool) → eqb a 1 ≡ s → eqb a 0 ≡ t → eqb b 1 ≡ u → eqb b 0 ≡ w → eqb a b ≡ x → eqb a (complement b) ≡ y
-          → fold_value (cond s (To b) (cond t (To 0) (cond u (To a) (cond w (To 0) (cond x (To a) (cond y (To 0) Gate)))))) (edge_value v a && edge_value v b)
+          → fold_value (cond s (Some b) (cond t (Some 0) (cond u (Some a) (cond w (Some 0) (cond x (Some a) (cond y (Some 0) None)))))) (edge_value v a && edge_value v b)
           ≡ edge_value v a && edge_value v b
       go true t u w x y h i j k l m = rw (eqb-true a 1 h, constant true)
       go false true u w x y h i j k l m = rw (eqb-true a 0 i, constant false)
-      go false false true w x y h i j k l m = rw (eqb-true b 1 j, constant true) (sym (itself (edge_value v a)))
-      go false false false true x y h i j k l m = rw (eqb-true b 0 k, constant false) (sym (right (edge_value v a)))
+      go false false true w x y h i j k l m = rw (eqb-true b 1 j, constant true) (sym (and-true (edge_value v a)))
+      go false false false true x y h i j k l m = rw (eqb-true b 0 k, constant false) (sym (and-false (edge_value v a)))
       go false false false false true y h i j k l m = rw (eqb-true a b l) (sym (and_self (edge_value v b)))
       go false false false false false true h i j k l m =
-          rw (eqb-true a (complement b) m, complementing.negates v b, constant false) (sym (none (edge_value v b)))
+          rw (eqb-true a (complement b) m, complementing.negates v b, constant false) (sym (not-and_self (edge_value v b)))
       go false false false false false false h i j k l m = refl
 
   order_value : (a b : ℕ) → edge_value v (first a b) && edge_value v (second a b) ≡ edge_value v a && edge_value v b
@@ -110,12 +97,12 @@ module _ (rows : List ℕ) (used a b : ℕ) (some : 0 < used) (p : id_of a < use
   unfolding add_and add_gate
   and_value = go (folded (first a b) (second a b)) refl
     where
-      go : (f : Fold) → folded (first a b) (second a b) ≡ f → (or_gate f rows used (add_gate rows used a b)).used ≤ rows_lent rows
+      go : (f : Option ℕ) → folded (first a b) (second a b) ≡ f → (or_gate f rows used (add_gate rows used a b)).used ≤ rows_lent rows
           → made (or_gate f rows used (add_gate rows used a b)) ≡ v a && v b
-      go (To e) h l =
-          sym (ap (λ (f : Fold). fold_value (value rows leaf) (value_zero rows leaf) f (v (first a b) && v (second a b))) h)
+      go (Some e) h l =
+          sym (ap (λ (f : Option ℕ). fold_value (value rows leaf) (value_zero rows leaf) f (v (first a b) && v (second a b))) h)
           ∙ (fold_value_lem (value rows leaf) (value_zero rows leaf) (first a b) (second a b) ∙ order_value (value rows leaf) (value_zero rows leaf) a b)
-      go Gate h l = gate_value l
+      go None h l = gate_value l
 
   pub step_value : (trivial : Bool) → (add_step trivial rows used a b).used ≤ rows_lent rows → made (add_step trivial rows used a b) ≡ v a && v b
   unfolding add_step add_gate
@@ -130,16 +117,12 @@ all_same rows used s g leaf [] h = refl
 all_same rows used s g leaf (e ∷ es) h =
     rw (grows_edge rows used s g leaf e (head_used used e es h), all_same rows used s g leaf es (tail_used used e es h))
 
-pub and_true : (x : Bool) → x && true ≡ x
-and_true true = refl
-and_true false = refl
-
 steps_value : (trivial : Bool) (es : List ℕ) (s : State) (leaf : ℕ → Bool) → 0 < s.used → id_of s.edge < s.used → AllUsed s.used es
     → (steps trivial s es).used ≤ rows_lent s.rows
     → edge_value (value (steps trivial s es).rows leaf) (steps trivial s es).edge
     ≡ edge_value (value s.rows leaf) s.edge && all_true (edge_value (value s.rows leaf)) es
 unfolding steps all_true
-steps_value trivial [] s leaf some own all room = sym (and_true (edge_value (value s.rows leaf) s.edge))
+steps_value trivial [] s leaf some own all room = sym (and-true (edge_value (value s.rows leaf) s.edge))
 steps_value trivial (e ∷ es) s leaf some own all room =
     let n = step trivial s e in
     let g = next_grows trivial s e es some own all room in

@@ -1,11 +1,9 @@
 -- Gates: how one is added after the used rows, and when the AND of two edges folds to an edge that is there already.
 -- Assumes nothing.
-use Rattle.std.specs.Prelude.{ℕ, ◌+◌, ◌*◌, ◌≤◌, ◌≡◌, ◌⊎◌, List, [], ◌∷◌, Bool, true, false, cond, length, set, eqb, ltb, leb}
+use Rattle.std.specs.Prelude.{ℕ, ◌+◌, ◌*◌, ◌≤◌, ◌≡◌, ◌⊎◌, List, [], ◌∷◌, Bool, true, false, cond, length, set, eqb, ltb, leb, Option, Some, None}
 use Rattle.edge.specs.Edges.{id_of, complement, constant_of}
 use Rattle.rows.specs.Rows.{false_word, none}
 use Rattle.gates.specs.declared.Grown.{Grown}
-use Rattle.gates.specs.declared.Fold.{Fold}
-use Rattle.gates.specs.declared.Fold.TheVariants.{To, Gate}
 
 -- ---- building: a table of rows, how many of them are used, and the edge that was built
 pub record State : Type 0 where
@@ -55,19 +53,19 @@ add_gate rows used a b = state (row_added rows used (first a b) (second a b)) (u
 
 -- "first true gives the second; first false gives false; second true gives the first; second false gives false; equal gives the first;
 -- complementary gives false; else a row is added"
-unfoldable pub folded : ℕ → ℕ → Fold
+unfoldable pub folded : ℕ → ℕ → Option ℕ
 folded a b =
-    cond (eqb a (constant_of true)) (To b)
-    (cond (eqb a (constant_of false)) (To (constant_of false))
-    (cond (eqb b (constant_of true)) (To a)
-    (cond (eqb b (constant_of false)) (To (constant_of false))
-    (cond (eqb a b) (To a)
-    (cond (eqb a (complement b)) (To (constant_of false)) Gate)))))
+    cond (eqb a (constant_of true)) (Some b)
+    (cond (eqb a (constant_of false)) (Some (constant_of false))
+    (cond (eqb b (constant_of true)) (Some a)
+    (cond (eqb b (constant_of false)) (Some (constant_of false))
+    (cond (eqb a b) (Some a)
+    (cond (eqb a (complement b)) (Some (constant_of false)) None)))))
 
 -- an edge that is there already, or else the gate
-abbrev pub or_gate : Fold → List ℕ → ℕ → State → State
-or_gate (To e) rows used s = state rows used e
-or_gate Gate rows used s = s
+abbrev pub or_gate : Option ℕ → List ℕ → ℕ → State → State
+or_gate (Some e) rows used s = state rows used e
+or_gate None rows used s = s
 
 -- "sorts likewise, then in this order"
 unfoldable pub add_and : List ℕ → ℕ → ℕ → ℕ → State

@@ -1,4 +1,5 @@
 // Rows and gates, step by step. Each step takes the rows as they are lent: where there is none left it writes nothing, and so it counts the need.
+// Memory is lent with room beyond the used entries, and a promise speaks of all that is lent: so how many are used stands beside a table.
 #![tactic(auto)]
 
 pub mod lists;
@@ -12,13 +13,6 @@ ghost use Rattle.gates.specs.Gates.{state_of, row_added, Sorted, first, second, 
 pub struct Grown {
     pub used: usize,
     pub edge: u32,
-}
-
-// What the AND of two edges comes to: an edge that is there already, or a gate.
-#[derive(Clone, Copy)]
-pub enum Fold {
-    To(u32),
-    Gate,
 }
 
 // Writes one row at the front of the free rows.
@@ -42,17 +36,11 @@ pub fn add_row(rows: &mut [u32], used: usize, a: u32, b: u32)
     write_row(&mut rows[start..], a, b);
 }
 
-// The order of a gate's two edges: the smaller id first, and the given order for equal ids.
-fn first(a: u32, b: u32) -> u32
-    ensures { result ≡ first a b }
+// A gate's two edges in order: the smaller id first, and the given order for equal ids.
+fn ordered(a: u32, b: u32) -> (u32, u32)
+    ensures { result ≡ (first a b, second a b) }
 {
-    if b / 2 < a / 2 { b } else { a }
-}
-
-fn second(a: u32, b: u32) -> u32
-    ensures { result ≡ second a b }
-{
-    if b / 2 < a / 2 { a } else { b }
+    if b / 2 < a / 2 { (b, a) } else { (a, b) }
 }
 
 // Adds a gate: always a row.
@@ -60,31 +48,26 @@ pub fn add_gate(rows: &mut [u32], used: usize, a: u32, b: u32) -> Grown
     requires { used ≤ step_limit }
     ensures { state_of rows.new result ≡ add_gate rows.old used a b }
 {
-    add_row(rows, used, first(a, b), second(a, b));
+    let (first, second) = ordered(a, b);
+    add_row(rows, used, first, second);
     Grown {
         used: used + 1,
         edge: 2 * (used as u32),
     }
 }
 
-// What the AND of two edges in order folds to. Of edges in order the second is a constant only where the first is one, and equal and complementary edges have one id: so two questions do.
-fn folded(a: u32, b: u32) -> Fold
+// The edge that the AND of two edges in order is already, if there is one. Of edges in order the second is a constant only where the first is one, and equal and complementary edges have one id: so two questions do.
+fn folded(a: u32, b: u32) -> Option<u32>
     requires { Sorted a b }
     ensures { result ≡ folded a b }
 {
     if a < 2 {
-        if a == 1 {
-            return Fold::To(b);
-        }
-        return Fold::To(0);
+        return Some(if a == 1 { b } else { 0 });
     }
     if a / 2 == b / 2 {
-        if a == b {
-            return Fold::To(a);
-        }
-        return Fold::To(0);
+        return Some(if a == b { a } else { 0 });
     }
-    Fold::Gate
+    None
 }
 
 // The AND of two edges: what it folds to, or a gate.
@@ -92,19 +75,21 @@ pub fn add_and(rows: &mut [u32], used: usize, a: u32, b: u32) -> Grown
     requires { used ≤ step_limit }
     ensures { state_of rows.new result ≡ add_and rows.old used a b }
 {
-    match folded(first(a, b), second(a, b)) {
-        Fold::To(e) => Grown { used, edge: e },
-        Fold::Gate => add_gate(rows, used, a, b),
+    let (first, second) = ordered(a, b);
+    match folded(first, second) {
+        Some(edge) => Grown { used, edge },
+        None => add_gate(rows, used, a, b),
     }
 }
 
-// The one or the other.
+// The one or the other. A flag and not a closure: contracts name the step by it.
 pub fn add_step(rows: &mut [u32], used: usize, trivial: bool, a: u32, b: u32) -> Grown
     requires { used ≤ step_limit }
     ensures { state_of rows.new result ≡ add_step trivial rows.old used a b }
 {
     if trivial {
-        return add_gate(rows, used, a, b);
+        add_gate(rows, used, a, b)
+    } else {
+        add_and(rows, used, a, b)
     }
-    add_and(rows, used, a, b)
 }

@@ -6,28 +6,28 @@ ghost use Rattle.gates.specs.Lists.{list_of, eq_of};
 
 use crate::{Grown, add_and, add_step};
 
-// The AND of a list of edges, or their OR: the complement of the AND of the complements.
+// The AND of a list of edges, or their OR: the complement of the AND of the complements. Two flags and not closures: contracts name the list by them.
 pub fn add_list(rows: &mut [u32], used: usize, trivial: bool, or: bool, edges: &[u32]) -> Grown
     requires used_bound { used ≤ max_rows + 2 }
     requires edges_len_bound { length edges.now ≤ max_entries }
     ensures { state_of rows.new result ≡ list_of trivial or rows.old used edges.now }
 {
-    if edges.len() == 0 {
+    let Some((first, rest)) = edges.split_first() else {
         return Grown {
             used,
             edge: edge::not_if(1, or),
         };
-    }
-    let mut at = used;
-    let mut edge = edge::not_if(edges[0], or);
-    for i in 1..edges.len() {
-        let grown = add_step(rows, at, trivial, edge, edge::not_if(edges[i], or));
-        at = grown.used;
-        edge = grown.edge;
+    };
+    let mut grown = Grown {
+        used,
+        edge: edge::not_if(*first, or),
+    };
+    for e in rest {
+        grown = add_step(rows, grown.used, trivial, grown.edge, edge::not_if(*e, or));
     }
     Grown {
-        used: at,
-        edge: edge::not_if(edge, or),
+        edge: edge::not_if(grown.edge, or),
+        ..grown
     }
 }
 

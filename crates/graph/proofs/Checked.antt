@@ -5,21 +5,21 @@ use mathlib.Core.Path.{◌≡◌, refl, ◌∙◌}
 use mathlib.Core.Bool.{true, false}
 use mathlib.Core.List.{List, ◌++◌}
 use lib.ListN.{length}
-use lib.Dec.{leb, eqb}
+use lib.Dec.{leb}
 use borrow.Author.Tests.{leb-true}
-use Rattle.edge.specs.declared.answer.Answer.{Answer}
-use Rattle.edge.specs.declared.answer.Answer.TheVariants.{BadSizes}
-use Rattle.edge.specs.Answers.{given, told}
+use Rattle.edge.specs.declared.answer.Refusal.{Refusal}
+use Rattle.edge.specs.declared.answer.Refusal.TheVariants.{BadSizes}
+use Rattle.edge.specs.Answers.{given, done, refused, told}
 use Rattle.edge.proofs.Tests.{both}
 use Rattle.rows.specs.Sizes.{max_entries, fits, rows_fit}
 use Rattle.rows.proofs.Laws.{fit, rows_fit_lem}
 use Rattle.graph.specs.Latches.{latches_lent}
 use Rattle.graph.specs.declared.Counts.{Counts}
-use Rattle.graph.specs.declared.search.Found.TheVariants.{At, Nothing}
+use Rattle.std.specs.Prelude.{Some, None, Result, Err}
 use Rattle.graph.specs.Stages.{Stage, found, first_fault}
-use Rattle.graph.specs.Graph.{Lent, sizes_right, Sized}
+use Rattle.graph.specs.Graph.{Lent, sizes_right, Sized, ListsLent}
 use Rattle.graph.specs.Check.{row_stage, leaf_stages, justice_stages, list_stages, contents, cleared, check_seen, check_call}
-use Rattle.graph.proofs.Stages.{Entries, stage_stops, stage_goes, join_stops, join_goes}
+use Rattle.graph.proofs.Stages.{Entries, stage_stops, stage_goes, stops_within, goes_beyond}
 use Rattle.graph.proofs.Stages.{ends, also}
 
 pub sized : (g : Lent) (marks : ℕ) → sizes_right g marks ≡ true → Sized g marks
@@ -47,6 +47,18 @@ sized g marks h =
       fairness = fit _ _ _ a.1;
     }
 
+-- right sizes lend the entries of lists 3 to 7
+pub lists_lent : {g : Lent} {marks : ℕ} → Sized g marks → ListsLent g
+lists_lent s =
+    record {
+      constraints = s.constraints.within;
+      bads = s.bads.within;
+      outputs = s.outputs.within;
+      ends = s.ends.within;
+      edges = s.edges.within;
+      fairness = s.fairness.within;
+    }
+
 -- ---- the stages of lists answer by 3
 pub leaf_entries : (rows inputs latches : List ℕ) (n : Counts) → Entries (leaf_stages rows inputs latches n)
 leaf_entries rows inputs latches n = also (λ i. refl) (also (λ i. refl) ends)
@@ -65,26 +77,26 @@ module _ (g : Lent) where
   abbrev list_stages_lem : List Stage
   list_stages_lem = list_stages g.constraints g.bads g.outputs g.ends g.edges g.fairness g.counts
 
-  pub at_row : {i : ℕ} → found row_stage_lem ≡ At i → contents g ≡ given 2 i 0 0
+  pub at_row : {i : ℕ} → found row_stage_lem ≡ Some i → contents g ≡ given 2 i 0 0
   unfolding contents
   at_row e = stage_stops row_stage_lem (leaf_stages_lem ++ list_stages_lem) e
 
-  module _ (rows : found row_stage_lem ≡ Nothing) where
-    pub at_leaves : eqb (first_fault leaf_stages_lem).number 0 ≡ false → contents g ≡ first_fault leaf_stages_lem
+  module _ (rows : found row_stage_lem ≡ None) where
+    pub at_leaves : (f : Refusal) → refused f ≡ first_fault leaf_stages_lem → contents g ≡ refused f
     unfolding contents
-    at_leaves e = stage_goes row_stage_lem (leaf_stages_lem ++ list_stages_lem) rows ∙ join_stops list_stages_lem (leaf_entries g.rows g.inputs g.latches g.counts) e
+    at_leaves f e = stage_goes row_stage_lem (leaf_stages_lem ++ list_stages_lem) rows ∙ stops_within list_stages_lem (leaf_entries g.rows g.inputs g.latches g.counts) f e
 
-    pub at_lists : eqb (first_fault leaf_stages_lem).number 0 ≡ true → contents g ≡ first_fault list_stages_lem
+    pub at_lists : done ≡ first_fault leaf_stages_lem → contents g ≡ first_fault list_stages_lem
     unfolding contents
-    at_lists e = stage_goes row_stage_lem (leaf_stages_lem ++ list_stages_lem) rows ∙ join_goes list_stages_lem (leaf_entries g.rows g.inputs g.latches g.counts) e
+    at_lists e = stage_goes row_stage_lem (leaf_stages_lem ++ list_stages_lem) rows ∙ goes_beyond list_stages_lem (leaf_entries g.rows g.inputs g.latches g.counts) e
 
 -- ---- the call
 module _ (g : Lent) (marks : List ℕ) where
-  pub check_refused_lem : sizes_right g (length marks) ≡ false → check_seen BadSizes marks ≡ check_call g marks
+  pub check_refused_lem : sizes_right g (length marks) ≡ false → check_seen (Err BadSizes) marks ≡ check_call g marks
   unfolding check_call
   check_refused_lem e = rw e
 
-  pub check_goes : (r : Answer) (after : List ℕ) → sizes_right g (length marks) ≡ true → told r ≡ contents g → after ≡ cleared g.counts.rows marks
+  pub check_goes : (r : Result Unit Refusal) (after : List ℕ) → sizes_right g (length marks) ≡ true → told r ≡ contents g → after ≡ cleared g.counts.rows marks
       → check_seen r after ≡ check_call g marks
   unfolding check_call
   check_goes r after e t w = rw (e, t, w)

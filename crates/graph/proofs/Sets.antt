@@ -11,14 +11,13 @@ use mathlib.Core.List.{List, [], ◌∷◌}
 use lib.ListN.{get_or}
 use lib.Dec.{ltb, leb, eqb}
 use borrow.Author.Tests.{leb-true, leb-false, eqb-true, eq-eqb, ne_eqb, le-leb, lt-leb, lt-ltb}
-use Rattle.edge.specs.Answers.{given, done}
 use Rattle.edge.proofs.Tests.{both, lt_or_le}
-use Rattle.graph.specs.declared.search.Found.{Found}
-use Rattle.graph.specs.declared.search.Found.TheVariants.{At, Nothing}
+use Rattle.std.specs.Prelude.{Option, Some, None, unwrap_or}
+use Rattle.std.specs.Bool.{then_some}
 use Rattle.graph.specs.Search.{first_bad}
-use Rattle.graph.specs.Justice.{start, end_is, good_end, found_or, set_of}
+use Rattle.graph.specs.Justice.{start, end_is, good_end, set_of}
 use Rattle.graph.specs.Sets.{InSet}
-use Rattle.graph.specs.Stages.{found, first_fault}
+use Rattle.graph.specs.Stages.{found, entry_found, first_fault}
 use Rattle.graph.specs.Check.{no_set_stage, end_stage, set_stage, justice_stages}
 use Rattle.graph.proofs.Searching.{all_good, is_first, first_is, nothing_bad}
 use Rattle.graph.proofs.Stages.{stage_goes}
@@ -43,7 +42,7 @@ end_is_lem sets edges s before end h =
       last = λ (q : s + 1 ≡ sets). eqb-true end edges (rw (eq-eqb (s + 1) sets q) at t.1);
     }
 
-module _ (ends : List ℕ) (sets n : ℕ) (good : first_bad (good_end ends sets n) 0 sets ≡ Nothing) where
+module _ (ends : List ℕ) (sets n : ℕ) (good : first_bad (good_end ends sets n) 0 sets ≡ None) where
   pub end_at : (s : ℕ) → s < sets → End sets n s (start ends s) (get_or ends s 0)
   end_at s l = end_is_lem sets n s (start ends s) (get_or ends s 0) (all_good (good_end ends sets n) sets 0 good s (omega arith) (omega arith))
 
@@ -75,7 +74,7 @@ module _ (ends : List ℕ) (sets n : ℕ) (good : first_bad (good_end ends sets 
   covered (suc s) p q = (end_at s (omega arith)).last (omega arith)
 
 -- ---- where all ends are good, every edge lies in the set that is named
-module _ (ends : List ℕ) (sets n k : ℕ) (good : first_bad (good_end ends sets n) 0 sets ≡ Nothing) (l : k < n) where
+module _ (ends : List ℕ) (sets n k : ℕ) (good : first_bad (good_end ends sets n) 0 sets ≡ None) (l : k < n) where
   abbrev ended : ℕ → Bool
   ended s = leb (get_or ends s 0) k
 
@@ -85,7 +84,7 @@ module _ (ends : List ℕ) (sets n k : ℕ) (good : first_bad (good_end ends set
   starts (suc s) before = leb-true (get_or ends s 0) k (before s (omega arith) (omega arith))
 
   -- the last set does not end at or below k
-  not_all : 0 < sets → first_bad ended 0 sets ≡ Nothing → ⊥
+  not_all : 0 < sets → first_bad ended 0 sets ≡ None → ⊥
   not_all p e =
       let s = sets - 1 in
       let h = leb-true (get_or ends s 0) k (all_good ended sets 0 e s (omega arith) (omega arith)) in
@@ -95,26 +94,30 @@ module _ (ends : List ℕ) (sets n k : ℕ) (good : first_bad (good_end ends set
   unfolding set_of
   in_set p = go (first_bad ended 0 sets) refl
     where
-      go : (f : Found) → first_bad ended 0 sets ≡ f → InSet ends sets k (found_or sets f)
-      go (At s) e =
+      go : (f : Option ℕ) → first_bad ended 0 sets ≡ f → InSet ends sets k (unwrap_or f sets)
+      go (Some s) e =
           let f = is_first ended sets 0 s e in
           record { a_set = omega (arith, f.below); from = starts s f.before; below = leb-false (get_or ends s 0) k f.bad }
-      go Nothing e = absurd (not_all p e)
+      go None e = absurd (not_all p e)
 
 -- ---- the three stages of justice
 module _ (used : ℕ) (ends : List ℕ) (sets : ℕ) (edges : List ℕ) (n : ℕ) where
-  pub no_sets : sets ≡ 0 → n ≡ 0 → first_fault (justice_stages used ends sets edges n) ≡ done
+  pub no_sets : sets ≡ 0 → entry_found 6 (then_some (ltb 0 n) 0) ≡ first_fault (justice_stages used ends sets edges n)
   unfolding first_fault first_bad
-  no_sets e f = rw (e, f)
+  no_sets e = ⊎_elim some none (lt_or_le 0 n)
+    where
+      some : 0 < n → entry_found 6 (then_some (ltb 0 n) 0) ≡ first_fault (justice_stages used ends sets edges n)
+      some l =
+          let z : n ≡ 0 → ⊥ = λ q. absurd (omega arith) in
+          rw (lt-ltb 0 n l, e, ne_eqb n 0 z) refl
 
-  pub edges_without_sets : sets ≡ 0 → (n ≡ 0 → ⊥) → first_fault (justice_stages used ends sets edges n) ≡ given 3 6 0 0
-  unfolding first_fault first_bad
-  edges_without_sets e f = rw (e, ne_eqb n 0 f)
+      none : n ≤ 0 → entry_found 6 (then_some (ltb 0 n) 0) ≡ first_fault (justice_stages used ends sets edges n)
+      none l = let z : n ≡ 0 = omega arith in rw (z, e) refl
 
   pub some_sets : (sets ≡ 0 → ⊥) → first_fault (justice_stages used ends sets edges n) ≡ first_fault (end_stage ends sets n ∷ (set_stage used ends sets edges n ∷ []))
   some_sets f =
       let l : 0 < sets = ⊎_elim (λ p. p) (λ (q : sets ≤ 0). absurd (f (omega arith))) (lt_or_le 0 sets) in
       stage_goes (no_set_stage sets n) (end_stage ends sets n ∷ (set_stage used ends sets edges n ∷ [])) (passed l)
     where
-      passed : 0 < sets → found (no_set_stage sets n) ≡ Nothing
+      passed : 0 < sets → found (no_set_stage sets n) ≡ None
       passed l = nothing_bad (λ (_ : ℕ). ltb 0 sets || eqb n 0) 1 0 (λ j a b. rw (lt-ltb 0 sets l))

@@ -1,8 +1,8 @@
 -- What `check` answers.
 -- Assumes nothing.
-use Rattle.std.specs.Prelude.{ℕ, ◌≡◌, List, [], ◌∷◌, ◌++◌, Bool, cond, ◌||◌, length, take, drop, replicate, ltb, eqb}
+use Rattle.std.specs.Prelude.{ℕ, ◌≡◌, List, [], ◌∷◌, ◌++◌, Bool, cond, ◌||◌, length, take, drop, replicate, ltb, eqb, Result}
 use Rattle.std.proofs.Common.{ap}
-use Rattle.edge.specs.declared.answer.Answer.{Answer}
+use Rattle.edge.specs.declared.answer.Refusal.{Refusal}
 use Rattle.edge.specs.declared.answer.Given.{Given}
 use Rattle.edge.specs.Answers.{given, bad_sizes, told, told_injective, determined}
 use Rattle.rows.specs.Rows.{row_at}
@@ -50,6 +50,9 @@ abbrev pub leaf_stages : List ℕ → List ℕ → List ℕ → Counts → List 
 leaf_stages rows inputs latches n =
     input_stage rows n.rows inputs n.inputs ∷ (latch_stage rows n.rows (take n.inputs inputs) latches n.latches ∷ [])
 
+abbrev pub leaf_stages_of : Lent → List Stage
+leaf_stages_of g = leaf_stages g.rows g.inputs g.latches g.counts
+
 -- lists 3 to 7
 abbrev pub list_stages : List ℕ → List ℕ → List ℕ → List ℕ → List ℕ → List ℕ → Counts → List Stage
 list_stages constraints bads outputs ends edges fairness n =
@@ -58,12 +61,14 @@ list_stages constraints bads outputs ends edges fairness n =
     ∷ (edge_stage n.rows 5 outputs n.outputs
     ∷ (justice_stages n.rows ends n.sets edges n.edges ++ (edge_stage n.rows 7 fairness n.fairness ∷ []))))
 
+abbrev pub list_stages_of : Lent → List Stage
+list_stages_of g = list_stages g.constraints g.bads g.outputs g.ends g.edges g.fairness g.counts
+
 -- "Checks run in this order": the rows, then lists 1 to 7
 abbrev pub stages : Lent → List Stage
 stages g =
     row_stage g.rows g.counts.rows
-    ∷ (leaf_stages g.rows g.inputs g.latches g.counts
-    ++ list_stages g.constraints g.bads g.outputs g.ends g.edges g.fairness g.counts)
+    ∷ (leaf_stages_of g ++ list_stages_of g)
 
 -- answers 2 and 3, of a graph whose sizes are right
 unfoldable pub contents : Lent → Given
@@ -78,7 +83,7 @@ pub record CheckSeen : Type 0 where
   pub given : Given
   pub marks : List ℕ
 
-abbrev pub check_seen : Answer → List ℕ → CheckSeen
+abbrev pub check_seen : Result Unit Refusal → List ℕ → CheckSeen
 check_seen r marks = record { given = told r; marks = marks }
 
 -- 1, "when they are untouched"; then 2 and 3
@@ -87,7 +92,7 @@ check_call g marks =
     cond (sizes_right g (length marks)) (record { given = contents g; marks = cleared g.counts.rows marks }) (record { given = bad_sizes; marks = marks })
 
 -- any two results that the promise allows are equal
-pub check_determined : (g : Lent) (marks : List ℕ) (r s : Answer) (m n : List ℕ) → check_seen r m ≡ check_call g marks → check_seen s n ≡ check_call g marks → (r ≡ s) × (m ≡ n)
+pub check_determined : (g : Lent) (marks : List ℕ) (r s : Result Unit Refusal) (m n : List ℕ) → check_seen r m ≡ check_call g marks → check_seen s n ≡ check_call g marks → (r ≡ s) × (m ≡ n)
 check_determined g marks r s m n p q =
     let t = determined (check_call g) marks (check_seen r m) (check_seen s n) p q in
     (told_injective r s (ap (λ (x : CheckSeen). x.given) t), ap (λ (x : CheckSeen). x.marks) t)

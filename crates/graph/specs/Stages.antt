@@ -1,10 +1,8 @@
 -- The check goes through stages, one after the other, and stops at the first bad place.
 -- Assumes nothing.
-use Rattle.std.specs.Prelude.{ℕ, ◌<◌, ◌≡◌, Bool, true, false, List, [], ◌∷◌}
+use Rattle.std.specs.Prelude.{ℕ, ◌<◌, ◌≡◌, Bool, true, false, List, [], ◌∷◌, Option, Some, None}
 use Rattle.edge.specs.declared.answer.Given.{Given}
-use Rattle.edge.specs.Answers.{done}
-use Rattle.graph.specs.declared.search.Found.{Found}
-use Rattle.graph.specs.declared.search.Found.TheVariants.{At, Nothing}
+use Rattle.edge.specs.Answers.{given, done}
 use Rattle.graph.specs.Search.{first_bad}
 
 -- how many places a stage looks at, which of them are good, and what is answered for a bad one
@@ -14,12 +12,17 @@ pub record Stage : Type 0 where
   pub bad : ℕ → Given
 
 -- what was found at a stage is answered; else the rest
-abbrev pub or_later : Stage → Found → Given → Given
-or_later s (At i) rest = s.bad i
-or_later s Nothing rest = rest
+abbrev pub or_later : Stage → Option ℕ → Given → Given
+or_later s (Some i) rest = s.bad i
+or_later s None rest = rest
 
-abbrev pub found : Stage → Found
+abbrev pub found : Stage → Option ℕ
 found s = first_bad s.good 0 s.count
+
+-- the answer for the first bad entry of a list
+abbrev pub entry_found : ℕ → Option ℕ → Given
+entry_found list (Some i) = given 3 list i 0
+entry_found list None = done
 
 -- the answer for the first bad place, stage by stage
 unfoldable pub first_fault : List Stage → Given

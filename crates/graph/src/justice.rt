@@ -1,14 +1,17 @@
 // List 6: sets of edges, as ends in one list of edges.
-ghost use Rattle.std.specs.Prelude.{◌≡◌, [], ◌∷◌, ◌≤◌, ◌<◌, length};
+// Memory is lent with room beyond the used entries, and a promise speaks of all that is lent: so how many are used stands beside a table.
+ghost use Rattle.std.specs.Prelude.{◌≡◌, [], ◌∷◌, ◌≤◌, ◌<◌, length, None};
 ghost use Rattle.edge.specs.Answers.{told};
 ghost use Rattle.graph.specs.Search.{first_bad};
 ghost use Rattle.graph.specs.Stages.{first_fault};
 ghost use Rattle.graph.specs.Justice.{end_is, good_end};
+ghost use Rattle.graph.specs.Graph.{lent_of, ListsLent};
 ghost use Rattle.graph.specs.Check.{set_stage, justice_stages};
 
+use crate::Graph;
 use crate::lists::is_used;
-use crate::search::{Found, bad_entry};
-use edge::Answer;
+use crate::search::no_bad_entry;
+use edge::{List, Refusal};
 
 // May set s end at `end`, where the one before ends at `before`?
 fn is_end(sets: usize, edges: usize, s: usize, before: usize, end: usize) -> bool
@@ -18,7 +21,7 @@ fn is_end(sets: usize, edges: usize, s: usize, before: usize, end: usize) -> boo
     (before <= end) & (end <= edges) & ((s + 1 != sets) | (end == edges))
 }
 
-fn first_bad_end(ends: &[u32], sets: usize, edges: usize) -> Found
+fn first_bad_end(ends: &[u32], sets: usize, edges: usize) -> Option<usize>
     requires { sets ≤ length ends.now }
     ensures { result ≡ first_bad (good_end ends.now sets edges) 0 sets }
 {
@@ -26,54 +29,54 @@ fn first_bad_end(ends: &[u32], sets: usize, edges: usize) -> Found
     for s in 0..sets {
         let end = ends[s] as usize;
         if !is_end(sets, edges, s, before, end) {
-            return Found::At(s);
+            return Some(s);
         }
         before = end;
     }
-    Found::Nothing
+    None
 }
 
 // The edges of the sets, whose ends are good: the search goes set by set and stops at the first edge whose row is not used.
-fn check_sets(ends: &[u32], sets: usize, edges: &[u32], n: usize, used: usize) -> Answer
-    requires sets_in_bounds { (sets ≤ length ends.now) × (n ≤ length edges.now) × (0 < sets) }
-    requires sets_value { first_bad (good_end ends.now sets n) 0 sets ≡ Found.Nothing }
-    ensures { told result ≡ first_fault (set_stage used ends.now sets edges.now n ∷ []) }
+fn check_sets(graph: &Graph) -> Result<(), Refusal>
+    requires lent { ListsLent (lent_of graph.now) }
+    requires sets { 0 < graph.now.counts.sets }
+    requires ends { first_bad (good_end graph.now.ends.now graph.now.counts.sets graph.now.counts.edges) 0 graph.now.counts.sets ≡ None }
+    ensures { told result ≡ first_fault (set_stage graph.now.counts.rows graph.now.ends.now graph.now.counts.sets graph.now.edges.now graph.now.counts.edges ∷ []) }
 {
-    let mut answer = Answer::Done;
+    let Graph {
+        ends,
+        edges,
+        counts,
+        ..
+    } = *graph;
+    let mut answer = Ok(());
     let mut from: usize = 0;
-    let mut s: usize = 0;
-    'sets: while s < sets {
+    'sets: for s in 0..counts.sets {
         let end = ends[s] as usize;
-        let mut k = from;
-        while k < end {
-            if !is_used(edges[k], used) {
-                answer = Answer::BadEntry {
-                    list: 6,
+        for k in from..end {
+            if !is_used(edges[k], counts.rows) {
+                answer = Err(Refusal::BadEntry {
+                    list: List::Justice,
                     index: s,
                     second: 1 + (k - from),
-                };
+                });
                 break 'sets;
             }
-            k += 1;
         }
         from = end;
-        s += 1;
     }
     answer
 }
 
-pub fn check_justice(ends: &[u32], sets: usize, edges: &[u32], n: usize, used: usize) -> Answer
-    requires { (sets ≤ length ends.now) × (n ≤ length edges.now) }
-    ensures { told result ≡ first_fault (justice_stages used ends.now sets edges.now n) }
+pub fn check_justice(graph: &Graph) -> Result<(), Refusal>
+    requires { ListsLent (lent_of graph.now) }
+    ensures { told result ≡ first_fault (justice_stages graph.now.counts.rows graph.now.ends.now graph.now.counts.sets graph.now.edges.now graph.now.counts.edges) }
 {
-    if sets == 0 {
-        if n == 0 {
-            return Answer::Done;
-        }
-        return bad_entry(6, 0);
+    let counts = graph.counts;
+    if counts.sets == 0 {
+        return no_bad_entry(List::Justice, (0 < counts.edges).then_some(0));
     }
-    match first_bad_end(ends, sets, n) {
-        Found::At(s) => bad_entry(6, s),
-        Found::Nothing => check_sets(ends, sets, edges, n, used),
-    }
+    let first_bad = first_bad_end(graph.ends, counts.sets, counts.edges);
+    no_bad_entry(List::Justice, first_bad)?;
+    check_sets(graph)
 }

@@ -10,7 +10,7 @@ pub struct Latch {
     pub input: u32,
     // An edge.
     pub next: u32,
-    // An edge, or none.
+    // An edge, or none: a word, as document 01 lends it.
     pub init: u32,
 }
 
@@ -24,7 +24,7 @@ pub fn latch_of(input: u32, next: u32, init: u32) -> Latch
     Latch { input, next, init }
 }
 
-// The latch with another input and other edges.
+// The latch with another input and other edges. Not `latch_of`: whatever else a latch may come to hold stays.
 pub fn with_edges(l: Latch, input: u32, next: u32, init: u32) -> Latch
     ensures { result ≡ with_edges l input next init }
 {

@@ -1,30 +1,31 @@
 // Lists 1 and 2: the leaves that inputs and latches list, each once. The marks say which are listed.
-ghost use Rattle.std.specs.Prelude.{◌≡◌, cond, [], ◌+◌, ◌*◌, ◌≤◌, ◌<◌, length, set, take, drop};
+ghost use Rattle.std.specs.Prelude.{◌≡◌, cond, None, IsOk, [], ◌+◌, ◌*◌, ◌≤◌, ◌<◌, length, set, take, drop};
 ghost use Rattle.edge.specs.Answers.{told};
 ghost use Rattle.graph.specs.Search.{first_bad};
 ghost use Rattle.graph.specs.Stages.{first_fault};
 ghost use Rattle.graph.specs.Latches.{latch_words};
 ghost use Rattle.graph.specs.Leaves.{latch_edges, good_input, good_latch, Marks};
 ghost use Rattle.graph.specs.Steps.{unmarked_leaf};
-ghost use Rattle.graph.specs.Check.{leaf_stages};
+ghost use Rattle.graph.specs.Graph.{lent_of, LeavesLent};
+ghost use Rattle.graph.specs.Check.{leaf_stages_of};
 ghost use Rattle.graph.specs.WellFormed.{leaf_list};
 
-use crate::Counts;
+use crate::Graph;
 use crate::latch::{Latch, latch_at};
 use crate::lists::is_used;
-use crate::search::{Found, bad_entry};
-use edge::Answer;
+use crate::search::no_bad_entry;
+use edge::{List, Refusal};
 use rows::kinds;
 
 // Lists row x: where it is a used leaf without a mark, it is marked.
-fn claim(rows: &[u32], used: usize, x: u32, marks: &mut [u32]) -> bool
-    requires used_in_bounds { 2 * used ≤ length rows.now }
-    requires used_in_bounds_2 { used ≤ length marks.old }
-    ensures value { result ≡ unmarked_leaf rows.now used marks.old x }
+fn claim(graph: &Graph, x: u32, marks: &mut [u32]) -> bool
+    requires { LeavesLent (lent_of graph.now) (length marks.old) }
+    ensures value { result ≡ unmarked_leaf graph.now.rows.now graph.now.counts.rows marks.old x }
     ensures marks_after { marks.new ≡ cond result (set marks.old x 1) marks.old }
 {
+    let rows = graph.rows;
     let i = x as usize;
-    if used <= i {
+    if graph.counts.rows <= i {
         return false;
     }
     if kinds::is_leaf(i, rows[2 * i], rows[2 * i + 1]) & (marks[i] == 0) {
@@ -34,19 +35,20 @@ fn claim(rows: &[u32], used: usize, x: u32, marks: &mut [u32]) -> bool
     false
 }
 
-fn first_bad_input(rows: &[u32], used: usize, inputs: &[u32], n: usize, marks: &mut [u32]) -> Found
-    requires used_in_bounds { (2 * used ≤ length rows.now) × (n ≤ length inputs.now) × (used ≤ length marks.old) }
-    requires marks { Marks used [] marks.old }
-    ensures value { result ≡ first_bad (good_input rows.now used inputs.now) 0 n }
-    ensures marks_unchanged { drop used marks.new ≡ drop used marks.old }
-    ensures marks_2 { result ≡ Found.Nothing → Marks used (take n inputs.now) marks.new }
+// A `for`: a test marks what it lists, so its steps have an order.
+fn first_bad_input(graph: &Graph, marks: &mut [u32]) -> Option<usize>
+    requires lent { LeavesLent (lent_of graph.now) (length marks.old) }
+    requires marks { Marks graph.now.counts.rows [] marks.old }
+    ensures value { result ≡ first_bad (good_input graph.now.rows.now graph.now.counts.rows graph.now.inputs.now) 0 graph.now.counts.inputs }
+    ensures marks_unchanged { drop graph.now.counts.rows marks.new ≡ drop graph.now.counts.rows marks.old }
+    ensures listed { result ≡ None → Marks graph.now.counts.rows (take graph.now.counts.inputs graph.now.inputs.now) marks.new }
 {
-    for i in 0..n {
-        if !claim(rows, used, inputs[i], marks) {
-            return Found::At(i);
+    for i in 0..graph.counts.inputs {
+        if !claim(graph, graph.inputs[i], marks) {
+            return Some(i);
         }
     }
-    Found::Nothing
+    None
 }
 
 // Is next an edge to a used row, and init such an edge or none?
@@ -57,59 +59,32 @@ pub fn latch_edges(used: usize, l: Latch) -> bool
 }
 
 // The marks stand for the inputs, which are listed before all latches.
-fn first_bad_latch(
-    rows: &[u32],
-    used: usize,
-    inputs: &[u32],
-    n: usize,
-    latches: &[u32],
-    m: usize,
-    marks: &mut [u32],
-) -> Found
-    requires used_in_bounds { (2 * used ≤ length rows.now) × (latch_words * m ≤ length latches.now) × (used ≤ length marks.old) }
-    requires marks { Marks used (take n inputs.now) marks.old }
-    ensures value { result ≡ first_bad (good_latch rows.now used (take n inputs.now) latches.now) 0 m }
-    ensures marks_unchanged { drop used marks.new ≡ drop used marks.old }
-    ensures marks_2 { result ≡ Found.Nothing → Marks used (leaf_list inputs.now n latches.now m) marks.new }
+fn first_bad_latch(graph: &Graph, marks: &mut [u32]) -> Option<usize>
+    requires lent { LeavesLent (lent_of graph.now) (length marks.old) }
+    requires marks { Marks graph.now.counts.rows (take graph.now.counts.inputs graph.now.inputs.now) marks.old }
+    ensures value { result ≡ first_bad (good_latch graph.now.rows.now graph.now.counts.rows (take graph.now.counts.inputs graph.now.inputs.now) graph.now.latches.now) 0 graph.now.counts.latches }
+    ensures marks_unchanged { drop graph.now.counts.rows marks.new ≡ drop graph.now.counts.rows marks.old }
+    ensures listed { result ≡ None → Marks graph.now.counts.rows (leaf_list graph.now.inputs.now graph.now.counts.inputs graph.now.latches.now graph.now.counts.latches) marks.new }
 {
-    for i in 0..m {
-        let l = latch_at(latches, i);
-        if !(claim(rows, used, l.input, marks) & latch_edges(used, l)) {
-            return Found::At(i);
+    for i in 0..graph.counts.latches {
+        let l = latch_at(graph.latches, i);
+        if !(claim(graph, l.input, marks) & latch_edges(graph.counts.rows, l)) {
+            return Some(i);
         }
     }
-    Found::Nothing
+    None
 }
 
-// Where all is good, the marks stand for every listed leaf.
-pub fn check_leaves(
-    rows: &[u32],
-    inputs: &[u32],
-    latches: &[u32],
-    counts: Counts,
-    marks: &mut [u32],
-) -> Answer
-    requires rows_in_bounds { (2 * counts.rows ≤ length rows.now) × (counts.inputs ≤ length inputs.now) × (latch_words * counts.latches ≤ length latches.now) × (counts.rows ≤ length marks.old) }
-    requires marks { Marks counts.rows [] marks.old }
-    ensures result_value { told result ≡ first_fault (leaf_stages rows.now inputs.now latches.now counts) }
-    ensures marks_unchanged { drop counts.rows marks.new ≡ drop counts.rows marks.old }
-    ensures marks_2 { (told result).number ≡ 0 → Marks counts.rows (leaf_list inputs.now counts.inputs latches.now counts.latches) marks.new }
+// Lists 1 and 2. Where all is good, the marks stand for every listed leaf.
+pub fn check_leaves(graph: &Graph, marks: &mut [u32]) -> Result<(), Refusal>
+    requires lent { LeavesLent (lent_of graph.now) (length marks.old) }
+    requires marks { Marks graph.now.counts.rows [] marks.old }
+    ensures result_value { told result ≡ first_fault (leaf_stages_of (lent_of graph.now)) }
+    ensures marks_unchanged { drop graph.now.counts.rows marks.new ≡ drop graph.now.counts.rows marks.old }
+    ensures listed { IsOk result → Marks graph.now.counts.rows (leaf_list graph.now.inputs.now graph.now.counts.inputs graph.now.latches.now graph.now.counts.latches) marks.new }
 {
-    let used = counts.rows;
-    match first_bad_input(rows, used, inputs, counts.inputs, marks) {
-        Found::At(i) => return bad_entry(1, i),
-        Found::Nothing => {}
-    }
-    match first_bad_latch(
-        rows,
-        used,
-        inputs,
-        counts.inputs,
-        latches,
-        counts.latches,
-        marks,
-    ) {
-        Found::At(i) => bad_entry(2, i),
-        Found::Nothing => Answer::Done,
-    }
+    let first_bad = first_bad_input(graph, marks);
+    no_bad_entry(List::Inputs, first_bad)?;
+    let first_bad = first_bad_latch(graph, marks);
+    no_bad_entry(List::Latches, first_bad)
 }

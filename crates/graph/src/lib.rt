@@ -8,18 +8,20 @@ pub mod leaves;
 pub mod lists;
 pub mod marks;
 pub mod search;
-pub mod sizes;
 
-ghost use Rattle.std.specs.Prelude.{◌≡◌};
-ghost use Rattle.graph.specs.Graph.{lent, no_counts};
-ghost use Rattle.graph.specs.Check.{check_seen, check_call};
+ghost use Rattle.std.specs.Prelude.{◌≡◌, true, length};
+ghost use Rattle.edge.specs.Answers.{told};
+ghost use Rattle.graph.specs.Graph.{no_counts, lent_of, sizes_right};
+ghost use Rattle.graph.specs.Check.{contents, cleared, check_seen, check_call};
 
-use contents::check_contents;
-use edge::Answer;
-use sizes::sizes;
+use contents::check_stages;
+use edge::Refusal;
+use latch::LATCH_WORDS;
+use marks::clear;
+use rows::sizes::{MAX_ENTRIES, fits, rows_fit};
 
 // How many rows are used, and how many entries of each list. Justice is sets, each an end, and their edges.
-#[derive(Clone, Copy)]
+#[derive(Clone, Copy, PartialEq, Eq)]
 pub struct Counts {
     pub rows: usize,
     pub inputs: usize,
@@ -32,7 +34,7 @@ pub struct Counts {
     pub fairness: usize,
 }
 
-// Nothing is counted: where the lists of an output graph start.
+// Nothing is counted: where the lists of an output graph start. By its name in the promises, and so no `Default`.
 pub fn no_counts() -> Counts
     ensures { result ≡ no_counts }
 {
@@ -49,50 +51,63 @@ pub fn no_counts() -> Counts
     }
 }
 
-// Is this a well-formed graph? Done, or 1, 2 or 3 with the place of the first fault.
-pub fn check(
-    rows: &[u32],
-    inputs: &[u32],
-    latches: &[u32],
-    constraints: &[u32],
-    bads: &[u32],
-    outputs: &[u32],
-    ends: &[u32],
-    edges: &[u32],
-    fairness: &[u32],
-    counts: Counts,
-    marks: &mut [u32],
-) -> Answer
-    ensures { check_seen result marks.new
-        ≡ check_call (lent rows.now inputs.now latches.now constraints.now bads.now outputs.now ends.now edges.now fairness.now counts) marks.old }
-{
-    let n = marks.len();
-    if !sizes(
-        rows,
-        inputs,
-        latches,
-        constraints,
-        bads,
-        outputs,
-        ends,
-        edges,
-        fairness,
-        counts,
-        n,
-    ) {
-        return Answer::BadSizes;
+// A graph as it is lent: the words of each list, used or not, and how many of them are used.
+#[derive(Clone, Copy)]
+pub struct Graph<'a> {
+    pub rows: &'a [u32],
+    pub inputs: &'a [u32],
+    pub latches: &'a [u32],
+    pub constraints: &'a [u32],
+    pub bads: &'a [u32],
+    pub outputs: &'a [u32],
+    pub ends: &'a [u32],
+    pub edges: &'a [u32],
+    pub fairness: &'a [u32],
+    pub counts: Counts,
+}
+
+impl Graph<'_> {
+    // Answer 1 is not due: every count is within its room, every room within its limit, and so many marks cover the used rows.
+    pub fn sizes_right(&self, marks: usize) -> bool
+        ensures { result ≡ sizes_right (lent_of self.now) marks }
+    {
+        let counts = self.counts;
+        rows_fit(counts.rows, self.rows)
+            & (counts.rows <= marks)
+            & fits(counts.inputs, self.inputs.len(), MAX_ENTRIES)
+            & fits(
+                counts.latches,
+                self.latches.len() / LATCH_WORDS,
+                MAX_ENTRIES,
+            )
+            & fits(counts.constraints, self.constraints.len(), MAX_ENTRIES)
+            & fits(counts.bads, self.bads.len(), MAX_ENTRIES)
+            & fits(counts.outputs, self.outputs.len(), MAX_ENTRIES)
+            & fits(counts.sets, self.ends.len(), MAX_ENTRIES)
+            & fits(counts.edges, self.edges.len(), MAX_ENTRIES)
+            & fits(counts.fairness, self.fairness.len(), MAX_ENTRIES)
     }
-    check_contents(
-        rows,
-        inputs,
-        latches,
-        constraints,
-        bads,
-        outputs,
-        ends,
-        edges,
-        fairness,
-        counts,
-        marks,
-    )
+
+    // Answers 2 and 3, where the sizes are right.
+    pub fn check_contents(&self, marks: &mut [u32]) -> Result<(), Refusal>
+        requires { sizes_right (lent_of self.now) (length marks.old) ≡ true }
+        ensures result_value { told result ≡ contents (lent_of self.now) }
+        ensures marks_after { marks.new ≡ cleared self.now.counts.rows marks.old }
+    {
+        let used = self.counts.rows;
+        clear(marks, used);
+        let answer = check_stages(self, marks);
+        clear(marks, used);
+        answer
+    }
+
+    // Is this a well-formed graph? Done, or 1, 2 or 3 with the place of the first fault.
+    pub fn check(&self, marks: &mut [u32]) -> Result<(), Refusal>
+        ensures { check_seen result marks.new ≡ check_call (lent_of self.now) marks.old }
+    {
+        if !self.sizes_right(marks.len()) {
+            return Err(Refusal::BadSizes);
+        }
+        self.check_contents(marks)
+    }
 }

@@ -1,4 +1,5 @@
 // Work marks: one word a row.
+// Memory is lent with room beyond the used entries, and a promise speaks of all that is lent: so how many are used stands beside a table.
 ghost use Rattle.std.specs.Prelude.{◌≡◌, ◌≤◌, length};
 ghost use Rattle.graph.specs.Check.{cleared};
 
@@ -7,7 +8,5 @@ pub fn clear(marks: &mut [u32], n: usize)
     requires { n ≤ length marks.old }
     ensures { marks.new ≡ cleared n marks.old }
 {
-    for i in 0..n {
-        marks[i] = 0;
-    }
+    marks[..n].fill(0);
 }

@@ -1,21 +1,20 @@
-// What a search for the first bad place finds, and how it is answered.
+// How a search for the first bad place is answered.
 ghost use Rattle.std.specs.Prelude.{◌≡◌};
+ghost use Rattle.edge.specs.Answers.{number_of, told};
+ghost use Rattle.graph.specs.Stages.{entry_found};
 
-use edge::Answer;
+use edge::{List, Refusal};
 
-#[derive(Clone, Copy)]
-pub enum Found {
-    At(usize),
-    Nothing,
-}
-
-// The answer for entry i of a list.
-pub fn bad_entry(list: u8, i: usize) -> Answer
-    ensures { result ≡ Answer.BadEntry list i 0 }
+// The answer for the first bad entry of a list, if there is one.
+pub fn no_bad_entry(list: List, first_bad: Option<usize>) -> Result<(), Refusal>
+    ensures { told result ≡ entry_found (number_of list) first_bad }
 {
-    Answer::BadEntry {
-        list,
-        index: i,
-        second: 0,
+    match first_bad {
+        Some(index) => Err(Refusal::BadEntry {
+            list,
+            index,
+            second: 0,
+        }),
+        None => Ok(()),
     }
 }

@@ -6,23 +6,23 @@ use native.Mathlib.Numerals.{add-one}
 use mathlib.Core.Path.{◌≡◌, refl, sym, ap, ◌∙◌}
 use mathlib.Core.Bool.{Bool, true, false, cond}
 use mathlib.Core.List.{List}
-use lib.ListN.{length, set, length-set}
+use lib.ListN.{length, set, take, length-set}
+use Rattle.std.proofs.lemmas.List.{get_or-take, length-take-le}
 use lib.Dec.{eqb}
 use Rattle.edge.specs.Edges.{id_of}
 use Rattle.rows.specs.Sizes.{max_rows}
 use Rattle.rows.specs.Rows.{none, word0, word1, gate_at}
 use Rattle.rows.proofs.Laws.{gate_below}
 use Rattle.graph.specs.Count.{count_below}
-use Rattle.renumber.specs.Renumber.{renamed}
+use Rattle.renumber.specs.Renumber.{renamed, ids_of}
 use Rattle.renumber.specs.Steps.{Known, MappedEdge}
 use Rattle.graph.proofs.Counting.{count_taken, count_left, count_past, count_same}
-use Rattle.kept_rows.specs.Keeping.{kept_written, word_put}
-use Rattle.kept_rows.specs.Copying.{row_word, row_put}
+use Rattle.kept_rows.specs.Keeping.{kept_written, word_put, kept_input}
+use Rattle.kept_rows.specs.Copying.{row_word, row_put, inputs_kept}
 use Rattle.kept_rows.specs.Steps.{WordReady}
 
 -- ---- a loop that keeps, before thing i
 pub record Keeping (p : ℕ → Bool) (put : List ℕ → ℕ → ℕ → List ℕ) (out : List ℕ) (i : ℕ) (now : List ℕ) (k : ℕ) : Type 0 where
-  pub long : length now ≡ length out
   pub count : k ≡ count_below p i
   pub is : now ≡ kept_written p put out i
 
@@ -33,30 +33,23 @@ module _ (p : ℕ → Bool) (put : List ℕ → ℕ → ℕ → List ℕ) (out :
 
   pub keep_start : Keeping p put out 0 out 0
   unfolding kept_written count_below
-  keep_start = record { long = refl; count = refl; is = refl }
+  keep_start = record { count = refl; is = refl }
 
   module _ (i : ℕ) {now : List ℕ} {k : ℕ} (h : Keeping p put out i now k) {after : List ℕ} {k' : ℕ} where
-    pub keep_taken : ((l : List ℕ) (k i : ℕ) → length (put l k i) ≡ length l) → p i ≡ true → after ≡ put now k i → k' ≡ k + 1 → Keeping p put out (i + 1) after k'
-    keep_taken same t q e =
+    pub keep_taken : p i ≡ true → after ≡ put now k i → k' ≡ k + 1 → Keeping p put out (i + 1) after k'
+    keep_taken t q e =
         record {
-          long = ap length q ∙ (same now k i ∙ h.long);
           count = count_taken p i h.count t e;
           is = q ∙ rw (kept_more i, t, h.is, h.count);
         }
 
     pub keep_left : p i ≡ false → after ≡ now → k' ≡ k → Keeping p put out (i + 1) after k'
-    keep_left t q e = record { long = ap length q ∙ h.long; count = count_left p i h.count t e; is = q ∙ rw (kept_more i, t, h.is) }
+    keep_left t q e = record { count = count_left p i h.count t e; is = q ∙ rw (kept_more i, t, h.is) }
 
   -- there is room for thing i, where there is for all that are kept
   module _ (i n : ℕ) {now : List ℕ} {k : ℕ} (h : Keeping p put out i now k) (l : i < n) (t : p i ≡ true) where
     pub keep_room : k < count_below p n
     keep_room = rw h.count (count_past p n i l t)
-
-  pub keep_end : (n i : ℕ) {now : List ℕ} {k : ℕ} → Keeping p put out i now k → i ≤ n → n ≤ i → now ≡ kept_written p put out n
-  keep_end n i h a b = let e : n ≡ i = omega arith in rw e h.is
-
-pub word_put_length : (word : ℕ → ℕ) (l : List ℕ) (k i : ℕ) → length (word_put word l k i) ≡ length l
-word_put_length word l k i = length-set l k (word i)
 
 -- ---- rows
 pub row_put_length : (m : ℕ → ℕ) (rows out : List ℕ) (k i : ℕ) → length (row_put m rows out k i) ≡ length out
@@ -103,3 +96,16 @@ row_put_same m m' rows i h l k = go (gate_at rows i) refl
         (cond t (cond (eqb (word1 rows i) none) none (2 * m' (id_of (word1 rows i)) + word1 rows i % 2)) (word1 rows i))
     go true e = let b = gate_below i (word0 rows i) (word1 rows i) e in rw (h (id_of (word0 rows i)) b.0, h (id_of (word1 rows i)) b.1)
     go false e = refl
+
+-- the kept of the first n inputs
+pub inputs_front : (kept : ℕ → Bool) (m : ℕ → ℕ) (inputs out : List ℕ) (n : ℕ) → n ≤ length inputs
+    → inputs_kept kept m (take n inputs) out (length (take n inputs)) ≡ inputs_kept kept m inputs out n
+inputs_front kept m inputs out n h =
+    rw (length-take-le n inputs h)
+    (kept_same (kept_input kept (take n inputs)) (kept_input kept inputs) (word_put (ids_of m (take n inputs))) (word_put (ids_of m inputs)) out n
+    (λ j l. ap kept (get_or-take n inputs j 0 l)) (λ o k j l. ap (λ (x : ℕ). set o k (m x)) (get_or-take n inputs j 0 l)))
+
+pub count_front : (kept : ℕ → Bool) (inputs : List ℕ) (n : ℕ) → n ≤ length inputs
+    → count_below (kept_input kept (take n inputs)) (length (take n inputs)) ≡ count_below (kept_input kept inputs) n
+count_front kept inputs n h =
+    rw (length-take-le n inputs h) (count_same (kept_input kept (take n inputs)) (kept_input kept inputs) n (λ j l. ap kept (get_or-take n inputs j 0 l)))

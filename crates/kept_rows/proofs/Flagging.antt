@@ -1,6 +1,6 @@
 -- Laws of the loops that flag the kept rows.
 -- Assumes nothing.
-use Prim.Native.Nat.{ℕ, zero, suc, ◌+◌, ◌*◌, ◌/◌, ◌≤◌, ◌<◌}
+use Prim.Native.Nat.{ℕ, zero, suc, ◌+◌, ◌*◌, ◌/◌, ◌<◌}
 use native.Mathlib.Omega.{arith}
 use native.Mathlib.Numerals.{add-one}
 use mathlib.Core.Path.{◌≡◌, refl, sym, ap, ◌∙◌}
@@ -11,12 +11,13 @@ use borrow.Author.Tests.{lt-ltb}
 use Rattle.edge.proofs.Tests.{both_true}
 use Rattle.rows.specs.Value.InCone.{here}
 use Rattle.graph.specs.declared.Counts.{Counts}
+use Rattle.graph.specs.Graph.{Lent}
 use Rattle.graph.specs.declared.latch.Latch.{Latch}
 use Rattle.graph.specs.Latches.{latch_at}
 use Rattle.graph.specs.Leaves.{used_edge}
 use Rattle.root_marks.specs.Arguments.{every}
 use Rattle.root_marks.specs.Marking.{mark_edges}
-use Rattle.root_marks.specs.Roots.{roots_in}
+use Rattle.root_marks.specs.Roots.{roots_of}
 use Rattle.root_marks.specs.Flags.{Flagged, Flags}
 use Rattle.root_marks.proofs.Marking.{edges_long, edges_both}
 use Rattle.root_marks.proofs.Roots.{both_every}
@@ -43,9 +44,6 @@ pub inputs_start : (latches : List ℕ) (marks : List ℕ) → marks ≡ mark_ed
 unfolding input_edges mark_edges
 inputs_start latches marks = refl
 
-pub inputs_end : (latches : List ℕ) (n k : ℕ) (marks : List ℕ) {after : List ℕ} → k ≤ n → n ≤ k → after ≡ mark_edges (input_edges latches k) marks → after ≡ mark_edges (input_edges latches n) marks
-inputs_end latches n k marks a b h = let e : n ≡ k = omega arith in rw e h
-
 inputs_good : (latches : List ℕ) (n used : ℕ) → ((k : ℕ) → k < n → (latch_at latches k).input < used) → every (used_edge used) (input_edges latches n) ≡ true
 unfolding input_edges every
 inputs_good latches zero used h = refl
@@ -55,9 +53,12 @@ inputs_good latches (suc n) used h =
     (both_true {a = used_edge used (2 * (latch_at latches n).input)} (lt-ltb _ _ l) refl)
 
 -- ---- row 0, the roots, the inputs, and all below
-module _ (rows latches constraints bads outputs edges fairness : List ℕ) (n : Counts) (marks : List ℕ) (r : FlagsReady rows latches constraints bads outputs edges fairness n marks) where
+module _ (g : Lent) (marks : List ℕ) (r : FlagsReady g marks) where
+  abbrev n : Counts
+  n = g.counts
+
   abbrev roots : List ℕ
-  roots = roots_in latches constraints bads outputs edges fairness n
+  roots = roots_of g
 
   pub marks_long : length marks ≡ n.rows
   marks_long = ap length r.zeros ∙ length-replicate n.rows 0
@@ -67,40 +68,37 @@ module _ (rows latches constraints bads outputs edges fairness : List ℕ) (n : 
     one_long = ap length p ∙ (length-set marks 0 1 ∙ marks_long)
 
     pub roots_used : every (used_edge (length one)) roots ≡ true
-    roots_used = rw one_long r.roots_used
+    roots_used = rw one_long r.roots.used
 
     module _ {two : List ℕ} (q : two ≡ mark_edges roots one) where
       pub two_long : length two ≡ n.rows
       two_long = ap length q ∙ (edges_long roots one ∙ one_long)
 
-      pub three_long : {three : List ℕ} → three ≡ mark_edges (input_edges latches n.latches) two → length three ≡ n.rows
-      three_long s = ap length s ∙ (edges_long (input_edges latches n.latches) two ∙ two_long)
+      pub three_long : {three : List ℕ} → three ≡ mark_edges (input_edges g.latches n.latches) two → length three ≡ n.rows
+      three_long s = ap length s ∙ (edges_long (input_edges g.latches n.latches) two ∙ two_long)
 
-      pub kept_flagged : {three four : List ℕ} → three ≡ mark_edges (input_edges latches n.latches) two → four ≡ mark_below rows (length three) three
-          → four ≡ kept_cone rows latches constraints bads outputs edges fairness n
+      pub kept_flagged : {three four : List ℕ} → three ≡ mark_edges (input_edges g.latches n.latches) two → four ≡ mark_below g.rows (length three) three
+          → four ≡ kept_cone g
       unfolding cone_of mark_edges
       kept_flagged {three} {four} s t =
           let l : length three ≡ n.rows = three_long s in
           let start : one ≡ set (replicate n.rows 0) 0 1 = p ∙ ap (λ (x : List ℕ). set x 0 1) r.zeros in
-          let all : three ≡ mark_edges (roots ++ input_edges latches n.latches) (set (replicate n.rows 0) 0 1)
-          = s ∙ (ap (mark_edges (input_edges latches n.latches)) (q ∙ ap (mark_edges roots) start) ∙ sym (edges_both roots (input_edges latches n.latches) (set (replicate n.rows 0) 0 1))) in
-          t ∙ (ap (λ (k : ℕ). mark_below rows k three) l ∙ ap (mark_below rows n.rows) all)
+          let all : three ≡ mark_edges (roots ++ input_edges g.latches n.latches) (set (replicate n.rows 0) 0 1)
+          = s ∙ (ap (mark_edges (input_edges g.latches n.latches)) (q ∙ ap (mark_edges roots) start) ∙ sym (edges_both roots (input_edges g.latches n.latches) (set (replicate n.rows 0) 0 1))) in
+          t ∙ (ap (λ (k : ℕ). mark_below g.rows k three) l ∙ ap (mark_below g.rows n.rows) all)
 
   -- ---- the flags
-  edges_used : every (used_edge n.rows) (kept_edges latches constraints bads outputs edges fairness n) ≡ true
+  edges_used : every (used_edge n.rows) (kept_edges g) ≡ true
   unfolding every
   edges_used =
       both_true {a = used_edge n.rows 0} (lt-ltb 0 n.rows r.some)
-      (both_every (used_edge n.rows) roots (input_edges latches n.latches) r.roots_used (inputs_good latches n.latches n.rows r.inputs_used.used))
+      (both_every (used_edge n.rows) roots (input_edges g.latches n.latches) r.roots.used (inputs_good g.latches n.latches n.rows r.inputs_used.used))
 
-  pub is_kept_cone : IsCone rows n.rows (kept_edges latches constraints bads outputs edges fairness n) (kept_cone rows latches constraints bads outputs edges fairness n)
-  is_kept_cone = is_cone rows n.rows (kept_edges latches constraints bads outputs edges fairness n) edges_used
+  pub is_kept_cone : IsCone g.rows n.rows (kept_edges g) (kept_cone g)
+  is_kept_cone = is_cone g.rows n.rows (kept_edges g) edges_used
 
-  pub cone_flags : Flags n.rows (kept_cone rows latches constraints bads outputs edges fairness n)
+  pub cone_flags : Flags n.rows (kept_cone g)
   cone_flags = is_kept_cone.one_each
 
-  pub cone_zero : Flagged (kept_cone rows latches constraints bads outputs edges fairness n) 0
+  pub cone_zero : Flagged (kept_cone g) 0
   cone_zero = is_kept_cone.reached 0 (record { root = 0; within = omega arith; path = here })
-
-  pub cone_long : {four : List ℕ} → four ≡ kept_cone rows latches constraints bads outputs edges fairness n → length four ≡ length marks
-  cone_long e = ap length e ∙ (cone_flags.long ∙ sym marks_long)

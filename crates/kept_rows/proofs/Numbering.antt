@@ -1,13 +1,16 @@
 -- Laws of numbering and counting kept rows.
 -- Assumes nothing.
-use Prim.Native.Nat.{ℕ, ◌+◌, ◌≤◌, ◌<◌}
+use Prim.Native.Nat.{ℕ, zero, suc, ◌+◌, ◌≤◌, ◌<◌}
 use native.Mathlib.Omega.{arith}
+use native.Mathlib.Numerals.{add-one}
 use mathlib.Core.Path.{◌≡◌, refl, sym, ap, ◌∙◌}
 use mathlib.Core.Bool.{Bool, true, false, cond, not, ◌||◌}
 use mathlib.Core.Logic.{◌⊎◌, inl, inr, ⊎_elim}
 use mathlib.Core.List.{List}
-use lib.ListN.{length, get_or, set, length-set}
+use lib.ListN.{length, get_or, set, take}
 use lib.Seq.{set-get_or}
+use Rattle.std.specs.Prelude.{count_by}
+use Rattle.std.proofs.lemmas.List.Sums.{count_by_more_yes, count_by_more_no}
 use lib.Dec.{eqb}
 use borrow.Author.Tests.{eq-eqb, ne_eqb}
 use Rattle.edge.proofs.Tests.{lt_or_le}
@@ -23,13 +26,12 @@ use Rattle.kept_rows.specs.Keeping.{kept_row, kept_id, new_ids, numbered, kept_i
 
 -- ---- the loop that numbers, before row i
 pub record Numbering (flags : List ℕ) (i : ℕ) (now : List ℕ) (k : ℕ) : Type 0 where
-  pub long : length now ≡ length flags
   pub count : k ≡ count_below (kept_row flags) i
   pub is : now ≡ written flags 0 (kept_id flags) i
 
 pub number_start : (flags : List ℕ) → Numbering flags 0 flags 0
 unfolding count_below written
-number_start flags = record { long = refl; count = refl; is = refl }
+number_start flags = record { count = refl; is = refl }
 
 module _ (flags : List ℕ) (i : ℕ) {now : List ℕ} {k : ℕ} (n : Numbering flags i now k) where
   -- row i still has its flag
@@ -49,7 +51,6 @@ module _ (flags : List ℕ) (i : ℕ) {now : List ℕ} {k : ℕ} (n : Numbering 
   unfolding kept_id
   number_taken h q e =
       record {
-        long = ap length q ∙ (length-set now i k ∙ n.long);
         count = count_taken (kept_row flags) i n.count (flag_kept h) e;
         is = q ∙ put (rw (flag_kept h) n.count);
       }
@@ -59,7 +60,6 @@ module _ (flags : List ℕ) (i : ℕ) {now : List ℕ} {k : ℕ} (n : Numbering 
   number_left b h q e =
       let z : get_or flags i 0 ≡ 0 = ⊎_elim (λ (z : get_or flags i 0 ≡ 0). z) (λ (o : Flagged flags i). absurd (h (flag_still ∙ o))) (b.bits i) in
       record {
-        long = ap length q ∙ n.long;
         count = count_left (kept_row flags) i n.count (flag_dropped h) e;
         is = q ∙ (sym (set-get_or now i 0) ∙ put (flag_still ∙ (z ∙ rw (flag_dropped h))));
       }
@@ -105,3 +105,15 @@ module _ (flags : List ℕ) (first : Flagged flags 0) where
   pub inputs_kept_lem : (map : List ℕ) (used : ℕ) → MarksHold used (kept_id flags) map → (inputs : List ℕ) (n : ℕ) → ((j : ℕ) → j < n → get_or inputs j 0 < used)
       → count_below (kept_input (numbered map) inputs) n ≡ count_below (kept_input (kept_row flags) inputs) n
   inputs_kept_lem map used h inputs n u = count_same (kept_input (numbered map) inputs) (kept_input (kept_row flags) inputs) n (λ j l. numbered_kept map used h (get_or inputs j 0) (u j l))
+
+-- counted one by one
+pub counted_by : (kept : ℕ → Bool) (list : List ℕ) (n : ℕ) → n ≤ length list → count_by kept (take n list) ≡ count_below (kept_input kept list) n
+unfolding count_below
+counted_by kept list zero h = refl
+counted_by kept list (suc n) h =
+    ap (λ (k : ℕ). count_by kept (take k list)) (sym (add-one n)) ∙ one (kept (get_or list n 0)) refl (counted_by kept list n (omega arith))
+  where
+    one : (t : Bool) → kept (get_or list n 0) ≡ t → count_by kept (take n list) ≡ count_below (kept_input kept list) n
+        → count_by kept (take (n + 1) list) ≡ cond t (count_below (kept_input kept list) n + 1) (count_below (kept_input kept list) n)
+    one true e k = count_by_more_yes kept list n 0 (omega arith) e ∙ ap (λ (c : ℕ). c + 1) k
+    one false e k = count_by_more_no kept list n 0 (omega arith) e ∙ k

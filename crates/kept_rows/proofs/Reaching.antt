@@ -32,8 +32,7 @@ use Rattle.coi.specs.Meaning.{Reached, IsCoi}
 use Rattle.coi.specs.Meaning.Reached.{always, root, left, right, latch}
 use Rattle.coi.proofs.Searching.{On, on_at, place}
 use Rattle.coi.proofs.Meaning.{is_coi}
-use Rattle.kept_rows.specs.Kept.{init_root, init_roots, list_roots, refine_roots, kept_flags, input_edges, kept_edges}
-use Rattle.kept_rows.specs.Steps.{kept_cone_of}
+use Rattle.kept_rows.specs.Kept.{init_root, init_roots, list_roots, refine_roots, kept_flags, input_edges, kept_edges, kept_cone}
 use Rattle.kept_rows.specs.Steps.{FlagsReady}
 use Rattle.kept_rows.proofs.Flagging.{is_kept_cone}
 
@@ -139,7 +138,7 @@ module _ (g : Lent) (marks : ℕ) (s : Sized g marks) (w : WellFormed g) where
   n = g.counts.latches
 
   abbrev edges : List ℕ
-  edges = kept_edges g.latches g.constraints g.bads g.outputs g.edges g.fairness g.counts
+  edges = kept_edges g
 
   -- roots are used rows
   root_used : (e : ℕ) → On e (roots_of g) → id_of e < used
@@ -236,28 +235,28 @@ module _ (g : Lent) (marks : ℕ) (s : Sized g marks) (w : WellFormed g) where
   cone_reached j (by1 h p) r = cone_reached j p (right r h)
 
   -- ---- what is reached is flagged
-  module _ (zeros : List ℕ) (ready : FlagsReady g.rows g.latches g.constraints g.bads g.outputs g.edges g.fairness g.counts zeros) where
-    cone : IsCone g.rows used edges (kept_cone_of g)
-    cone = is_kept_cone g.rows g.latches g.constraints g.bads g.outputs g.edges g.fairness g.counts zeros ready
+  module _ (zeros : List ℕ) (ready : FlagsReady g zeros) where
+    cone : IsCone g.rows used edges (kept_cone g)
+    cone = is_kept_cone g zeros ready
 
-    edge_flagged : (e : ℕ) → On e edges → Flagged (kept_cone_of g) (id_of e)
+    edge_flagged : (e : ℕ) → On e edges → Flagged (kept_cone g) (id_of e)
     edge_flagged e o = let p = place edges o in rw (← p.same) (cone.reached (id_of (get_or edges p.at 0)) (record { root = p.at; within = p.within; path = here }))
 
-    root_flagged : (e : ℕ) → On e (roots_of g) → Flagged (kept_cone_of g) (id_of e)
+    root_flagged : (e : ℕ) → On e (roots_of g) → Flagged (kept_cone g) (id_of e)
     root_flagged e o = edge_flagged e (Memᴰ.tail (Memᴰ.append_left (input_edges g.latches n) o))
 
-    input_flagged : (k : ℕ) → k < n → Flagged (kept_cone_of g) (latch_at g.latches k).input
+    input_flagged : (k : ℕ) → k < n → Flagged (kept_cone g) (latch_at g.latches k).input
     input_flagged k l =
         let h : 2 * (latch_at g.latches k).input / 2 ≡ (latch_at g.latches k).input = omega arith in
         let f = edge_flagged (2 * (latch_at g.latches k).input)
         (Memᴰ.tail (Memᴰ.append_right (roots_of g) (input_edges_on g.latches (2 * (latch_at g.latches k).input) n k l (Memᴰ.head refl)))) in
         rw h at f
 
-    flagged : {x : ℕ} → Reach x → Flagged (kept_cone_of g) x
+    flagged : {x : ℕ} → Reach x → Flagged (kept_cone g) x
     flagged always = edge_flagged 0 (Memᴰ.head refl)
     flagged (root k l) = by (from (get_or (refine_roots g) k 0) (on_at (refine_roots g) k l))
       where
-        by : {x : ℕ} → From x → Flagged (kept_cone_of g) x
+        by : {x : ℕ} → From x → Flagged (kept_cone g) x
         by (by_edge e o q) = rw (← q) (root_flagged e o)
         by (by_input j m q) = rw q (input_flagged j m)
     flagged (left {i} r h) = (cone.closed i (flagged r) h).0
@@ -265,8 +264,8 @@ module _ (g : Lent) (marks : ℕ) (s : Sized g marks) (w : WellFormed g) where
     flagged (latch k l r) = root_flagged (latch_at g.latches k).next (Memᴰ.append_left (list_roots g) (roots_on g.latches (latch_at g.latches k).next n k l (next_on (latch_at g.latches k))))
 
     -- the kept rows are those that `coi` flags from the roots
-    pub kept_is : kept_cone_of g ≡ kept_flags g
+    pub kept_is : kept_cone g ≡ kept_flags g
     kept_is =
-        same_flags (kept_cone_of g) (kept_flags g) cone.one_each kept_coi.one_each
+        same_flags (kept_cone g) (kept_flags g) cone.one_each kept_coi.one_each
         (λ j m. let b = cone.only j m in kept_coi.reached j (cone_reached j b.path (edge_reached (get_or edges b.root 0) (on_at edges b.root b.within))))
         (λ j m. flagged (kept_coi.only j m))

@@ -4,9 +4,11 @@ use Prim.Native.Nat.{ℕ, ◌≤◌, ◌<◌}
 use native.Mathlib.Omega.{arith}
 use mathlib.Core.Path.{◌≡◌, sym, ap, ◌∙◌}
 use mathlib.Core.List.{List}
-use lib.ListN.{length, get_or}
+use lib.ListN.{length, get_or, take}
+use Rattle.std.proofs.lemmas.List.{get_or-take, length-take-le}
 use Rattle.rows.specs.Sizes.{max_rows}
 use Rattle.graph.specs.declared.Counts.{Counts}
+use Rattle.graph.specs.Graph.{Lent}
 use Rattle.root_marks.specs.Flags.{Flagged, Flags}
 use Rattle.graph.specs.Count.{count_below}
 use Rattle.renumber.specs.Steps.{MarksHold}
@@ -14,41 +16,36 @@ use Rattle.kept_rows.specs.Kept.{kept_cone}
 use Rattle.kept_rows.specs.Keeping.{kept_row, kept_id, new_ids, numbered, kept_input, with_kept, kept_counts}
 use Rattle.kept_rows.specs.Steps.{FlagsReady, IdsThere}
 use Rattle.kept_rows.proofs.Flagging.{marks_long, cone_flags, cone_zero}
-use Rattle.kept_rows.proofs.Numbering.{ids_hold, ids_long, inputs_kept_lem}
+use Rattle.kept_rows.proofs.Numbering.{ids_hold, inputs_kept_lem}
 
 -- ---- the numbers
-module _ (rows latches constraints bads outputs edges fairness : List ℕ) (n : Counts) (marks : List ℕ) (r : FlagsReady rows latches constraints bads outputs edges fairness n marks) where
+module _ (g : Lent) (marks : List ℕ) (r : FlagsReady g marks) where
   abbrev cone : List ℕ
-  cone = kept_cone rows latches constraints bads outputs edges fairness n
+  cone = kept_cone g
+
+  abbrev n : Counts
+  n = g.counts
 
   module _ {flags : List ℕ} (p : flags ≡ cone) where
     flags_long : length flags ≡ n.rows
-    flags_long = ap length p ∙ (cone_flags rows latches constraints bads outputs edges fairness n marks r).long
+    flags_long = ap length p ∙ (cone_flags g marks r).long
 
     pub number_needs : (length flags ≤ max_rows) × Flags (length flags) flags
-    number_needs = (omega (arith, flags_long, r.small), rw flags_long (rw p (cone_flags rows latches constraints bads outputs edges fairness n marks r)))
+    number_needs = (omega (arith, flags_long, r.small), rw flags_long (rw p (cone_flags g marks r)))
 
     module _ {ids : List ℕ} (q : ids ≡ new_ids flags) where
-      pub ids_are : ids ≡ new_ids cone
-      ids_are = q ∙ ap new_ids p
-
       first : Flagged flags 0
-      first = rw p (cone_zero rows latches constraints bads outputs edges fairness n marks r)
-
-      pub numbers_long : length ids ≡ length marks
-      numbers_long = ap length q ∙ (ids_long flags first ∙ (flags_long ∙ sym (marks_long rows latches constraints bads outputs edges fairness n marks r)))
+      first = rw p (cone_zero g marks r)
 
       module _ (inputs : List ℕ) (there : IdsThere marks inputs n.inputs) where
-        pub still_there : IdsThere ids inputs n.inputs
-        still_there = record { has = there.has; there = λ j l. rw numbers_long (there.there j l) }
-
         pub counted :
             {k j : ℕ} {s : Counts} → k ≡ count_below (kept_row flags) (length flags) → j ≡ count_below (kept_input (numbered ids) inputs) n.inputs → s ≡ with_kept k j n → s ≡ kept_counts cone
             inputs n
         counted {k} {j} {s} a b e =
             let h : MarksHold (length flags) (kept_id flags) ids = rw q (ids_hold flags first) in
-            let u : (i : ℕ) → i < n.inputs → get_or inputs i 0 < length flags = λ i l. rw (flags_long ∙ sym (marks_long rows latches constraints bads outputs edges fairness n marks r))
-            (there.there i l) in
+            let u : (i : ℕ) → i < n.inputs → get_or inputs i 0 < length flags = λ i l.
+            let t : i < length (take n.inputs inputs) = omega (arith, length-take-le n.inputs inputs there.has) in
+            rw (flags_long ∙ sym (marks_long g marks r)) (rw (get_or-take n.inputs inputs i 0 l) at (there.there i 0 t)) in
             let k' : k ≡ count_below (kept_row cone) n.rows = a ∙ (ap (count_below (kept_row flags)) flags_long ∙ ap (λ (f : List ℕ). count_below (kept_row f) n.rows) p) in
             let j' : j ≡ count_below (kept_input (kept_row cone) inputs) n.inputs = b ∙
             (inputs_kept_lem flags first ids (length flags) h inputs n.inputs u ∙ ap (λ (f : List ℕ). count_below (kept_input (kept_row f) inputs) n.inputs) p) in

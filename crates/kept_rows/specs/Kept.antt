@@ -3,11 +3,10 @@
 use Rattle.std.specs.Prelude.{ℕ, zero, suc, ◌*◌, List, [], ◌∷◌, ◌++◌, map, cond, ◌||◌, eqb}
 use Rattle.edge.specs.Edges.{id_of}
 use Rattle.rows.specs.Rows.{none}
-use Rattle.graph.specs.declared.Counts.{Counts}
 use Rattle.graph.specs.declared.latch.Latch.{Latch}
 use Rattle.graph.specs.Latches.{latch_at, latch_inputs}
 use Rattle.graph.specs.Graph.{Lent}
-use Rattle.root_marks.specs.Roots.{list_roots_in, roots_in}
+use Rattle.root_marks.specs.Roots.{list_roots_in, roots_of}
 use Rattle.cone.specs.Cone.{cone_of}
 use Rattle.coi.specs.Coi.{coi_of}
 
@@ -38,9 +37,9 @@ input_edges latches zero = []
 input_edges latches (suc n) = input_edges latches n ++ (2 * (latch_at latches n).input ∷ [])
 
 -- Every latch input is a root, so that every latch is crossed: its next may as well be a root. Row 0 is kept anyway, so that a constant init adds nothing.
-abbrev pub kept_edges : List ℕ → List ℕ → List ℕ → List ℕ → List ℕ → List ℕ → Counts → List ℕ
-kept_edges latches constraints bads outputs edges fairness n = 0 ∷ (roots_in latches constraints bads outputs edges fairness n ++ input_edges latches n.latches)
+abbrev pub kept_edges : Lent → List ℕ
+kept_edges g = 0 ∷ (roots_of g ++ input_edges g.latches g.counts.latches)
 
 -- then their cone is enough
-abbrev pub kept_cone : List ℕ → List ℕ → List ℕ → List ℕ → List ℕ → List ℕ → List ℕ → Counts → List ℕ
-kept_cone rows latches constraints bads outputs edges fairness n = cone_of rows n.rows (kept_edges latches constraints bads outputs edges fairness n)
+abbrev pub kept_cone : Lent → List ℕ
+kept_cone g = cone_of g.rows g.counts.rows (kept_edges g)

@@ -1,21 +1,13 @@
 -- What only the proofs need: what a step asks of its caller, and what its functions count on the way.
 -- Assumes nothing.
-use Rattle.std.specs.Prelude.{ℕ, ◌*◌, ◌+◌, ◌≤◌, ◌<◌, List, map, Bool, true, ◌≡◌, length, get_or, replicate}
-use Rattle.graph.specs.declared.Counts.{Counts}
+use Rattle.std.specs.Prelude.{ℕ, ◌*◌, ◌+◌, ◌≤◌, ◌<◌, List, Bool, true, ◌≡◌, length, All, take, replicate}
 use Rattle.graph.specs.Latches.{latch_at, latch_words}
 use Rattle.graph.specs.Graph.{Lent}
-use Rattle.root_marks.specs.Roots.{roots_in}
-use Rattle.root_marks.specs.Steps.{RootsFit}
+use Rattle.root_marks.specs.Steps.{RootsKnown}
 use Rattle.rows.specs.Sizes.{max_rows}
-use Rattle.graph.specs.Leaves.{used_edge}
-use Rattle.root_marks.specs.Arguments.{every}
 use Rattle.graph.specs.Count.{count_below}
 use Rattle.renumber.specs.Steps.{Known, MappedEdge}
 use Rattle.kept_rows.specs.Keeping.{numbered, kept_input}
-use Rattle.kept_rows.specs.Kept.{kept_cone}
-
-abbrev pub kept_cone_of : Lent → List ℕ
-kept_cone_of g = kept_cone g.rows g.latches g.constraints g.bads g.outputs g.edges g.fairness g.counts
 
 -- n latch inputs are rows that have a mark
 pub record InputsReady (latches : List ℕ) (n marks : ℕ) : Type 0 where
@@ -23,19 +15,18 @@ pub record InputsReady (latches : List ℕ) (n marks : ℕ) : Type 0 where
   pub used : (k : ℕ) → k < n → (latch_at latches k).input < marks
 
 -- the rows can be flagged: no row is yet
-pub record FlagsReady (rows latches constraints bads outputs edges fairness : List ℕ) (n : Counts) (marks : List ℕ) : Type 0 where
-  pub some : 0 < n.rows
-  pub small : n.rows ≤ max_rows
-  pub rows_long : 2 * n.rows ≤ length rows
-  pub zeros : marks ≡ replicate n.rows 0
-  pub fit : RootsFit latches constraints bads outputs edges fairness n
-  pub roots_used : every (used_edge n.rows) (roots_in latches constraints bads outputs edges fairness n) ≡ true
-  pub inputs_used : InputsReady latches n.latches n.rows
+pub record FlagsReady (g : Lent) (marks : List ℕ) : Type 0 where
+  pub some : 0 < g.counts.rows
+  pub small : g.counts.rows ≤ max_rows
+  pub rows_long : 2 * g.counts.rows ≤ length g.rows
+  pub zeros : marks ≡ replicate g.counts.rows 0
+  pub roots : RootsKnown g
+  pub inputs_used : InputsReady g.latches g.counts.latches g.counts.rows
 
 -- n ids are rows that the map has
 pub record IdsThere (map list : List ℕ) (n : ℕ) : Type 0 where
   pub has : n ≤ length list
-  pub there : (j : ℕ) → j < n → get_or list j 0 < length map
+  pub there : All (λ (x : ℕ). x < length map) (take n list)
 
 -- a word of a gate is an edge that can be mapped
 abbrev pub WordReady : Bool → ℕ → List ℕ → Type 0
@@ -56,7 +47,7 @@ pub record RowsReady (rows : List ℕ) (used : ℕ) (out old map : List ℕ) : T
   pub room : 2 * count_below (numbered map) used ≤ length out
   pub old_room : count_below (numbered map) used ≤ length old
 
--- the kept inputs can be written
-pub record KeptReady (map inputs : List ℕ) (n : ℕ) (out : List ℕ) : Type 0 where
-  pub there : IdsThere map inputs n
-  pub room : count_below (kept_input (numbered map) inputs) n ≤ length out
+-- the kept of the inputs can be written
+pub record KeptReady (map inputs out : List ℕ) : Type 0 where
+  pub there : All (λ (x : ℕ). x < length map) inputs
+  pub room : count_below (kept_input (numbered map) inputs) (length inputs) ≤ length out

@@ -1,5 +1,6 @@
 // Kept rows and kept inputs are written in order, each at the next place.
-ghost use Rattle.std.specs.Prelude.{◌≡◌, cond};
+// Memory is lent with room beyond the used entries, and a promise speaks of all that is lent: so how many are used stands beside a table.
+ghost use Rattle.std.specs.Prelude.{◌≡◌, cond, length};
 ghost use Rattle.renumber.specs.Renumber.{renamed as renamed_by, by};
 ghost use Rattle.kept_rows.specs.Keeping.{numbered};
 ghost use Rattle.kept_rows.specs.Copying.{row_put, rows_kept, inputs_kept, old_kept};
@@ -9,7 +10,7 @@ use crate::numbers::is_numbered;
 use renumber::renamed_edge;
 use rows::kinds::is_gate;
 
-// A word of a row: one of a gate is an edge, and one of another row stays.
+// A word of a row: one of a gate is an edge, and one of another row stays. It is asked once for both words.
 fn row_word(gate: bool, w: u32, map: &[u32]) -> u32
     requires { WordReady gate w map.now }
     ensures { result ≡ cond gate (renamed_by (by map.now) w) w }
@@ -48,14 +49,14 @@ pub fn write_rows(rows: &[u32], used: usize, out: &mut [u32], old: &mut [u32], m
     }
 }
 
-// Writes the kept of the first n inputs.
-pub fn write_inputs(inputs: &[u32], n: usize, out: &mut [u32], map: &[u32])
-    requires { KeptReady map.now inputs.now n out.old }
-    ensures { out.new ≡ inputs_kept (numbered map.now) (by map.now) inputs.now out.old n }
+// Writes the kept of the inputs.
+pub fn write_inputs(inputs: &[u32], out: &mut [u32], map: &[u32])
+    requires { KeptReady map.now inputs.now out.old }
+    ensures { out.new ≡ inputs_kept (numbered map.now) (by map.now) inputs.now out.old (length inputs.now) }
 {
     let mut k: usize = 0;
-    for j in 0..n {
-        let x = inputs[j] as usize;
+    for input in inputs {
+        let x = *input as usize;
         if is_numbered(x, map) {
             out[k] = map[x];
             k += 1;

@@ -31,13 +31,3 @@ same_tells [] [] = ((λ s. refl), (λ q. refl))
 same_tells [] (y ∷ b) = ((λ s. never s), (λ q. none_no_word (length b) (ap length q)))
 same_tells (x ∷ a) [] = ((λ s. never s), (λ q. none_no_word (length a) (sym (ap length q))))
 same_tells (x ∷ a) (y ∷ b) = tells_word (eqb x y) x y a b refl (same_tells a b)
-
--- what tells whether two lists are equal is `same_words`
-pub tells_same : (a b : List ℕ) (r : Bool) → Tells r a b → r ≡ same_words a b
-tells_same a b r p = alike r (same_words a b) p (same_tells a b)
-  where
-    alike : (r s : Bool) → Tells r a b → Tells s a b → r ≡ s
-    alike true true p q = refl
-    alike true false p q = sym (q.1 (p.0 refl))
-    alike false true p q = p.1 (q.0 refl)
-    alike false false p q = refl

@@ -1,71 +1,43 @@
 // Reading the table: lists that stand one after the other, each with its length before it.
-ghost use Rattle.std.specs.Prelude.{◌+◌, ◌-◌, ◌^◌, ◌<◌, ◌≤◌, length};
+ghost use Rattle.std.specs.Prelude.{◌+◌, ◌^◌, ◌<◌, ◌≤◌, length};
+ghost use Rattle.std.specs.Iterator.{at_most};
 
-use graph::Counts;
+use graph::{Counts, Graph};
+use std::cmp::min;
 
-// The place after the list whose length stands at `at`: the end, where it is not there whole. Less is left there, so that a loop over the lists ends.
-pub fn after(words: &[u32], at: usize) -> usize
-    ensures { (result ≤ length words.now) × (length words.now - result ≤ length words.now - (at + 1)) }
-{
-    if words.len() <= at {
-        return words.len();
-    }
-    let size = wide(words[at]);
-    let rest = words.len() - at;
-    if rest <= size {
-        return words.len();
-    }
-    at + 1 + size
-}
+// The lists that are left. One that is not there whole is what there is of it.
+#[derive(Clone, Copy)]
+pub struct Lists<'a>(pub &'a [u32]);
 
-// The list whose length stands at `at`.
-pub fn list_at(words: &[u32], at: usize) -> &[u32] {
-    let next = after(words, at);
-    if next <= at {
-        return &words[0..0];
-    }
-    &words[at + 1..next]
-}
+impl<'a> Iterator for Lists<'a> {
+    type Item = &'a [u32];
 
-// Where list k stands.
-fn start(words: &[u32], k: usize) -> usize
-    ensures { result ≤ length words.now }
-{
-    let mut at = 0;
-    for _ in 0..k {
-        at = after(words, at);
+    ghost remaining = { λ s. at_most (length s.0.now) };
+
+    fn next(&mut self) -> Option<&'a [u32]> {
+        let (size, rest) = self.0.split_first()?;
+        let n = min(wide(*size), rest.len());
+        self.0 = &rest[n..];
+        Some(&rest[..n])
     }
-    at
 }
 
 // List k.
 pub fn list(words: &[u32], k: usize) -> &[u32] {
-    list_at(words, start(words, k))
+    Lists(words).nth(k).unwrap_or(&[])
 }
 
 // What stands from list k on.
 pub fn tail(words: &[u32], k: usize) -> &[u32] {
-    let at = start(words, k);
-    &words[at..]
-}
-
-// What stands before `to`.
-pub fn front(words: &[u32], to: usize) -> &[u32] {
-    if words.len() < to {
-        return &words[0..0];
+    let mut lists = Lists(words);
+    for _ in 0..k {
+        lists.next();
     }
-    &words[0..to]
-}
-
-pub fn front_bytes(bytes: &[u8], to: usize) -> &[u8] {
-    if bytes.len() < to {
-        return &bytes[0..0];
-    }
-    &bytes[0..to]
+    lists.0
 }
 
 pub fn word(words: &[u32], i: usize) -> u32 {
-    if i < words.len() { words[i] } else { 0 }
+    words.get(i).copied().unwrap_or(0)
 }
 
 pub fn size(words: &[u32], i: usize) -> usize
@@ -91,6 +63,25 @@ pub fn counts(words: &[u32], i: usize) -> Counts
     }
 }
 
+// The graph whose nine lists stand from list k on.
+pub fn graph(case: &[u32], k: usize, counts: Counts) -> Graph<'_>
+    requires { k ≤ 11 }
+{
+    Graph {
+        rows: list(case, k),
+        inputs: list(case, k + 1),
+        latches: list(case, k + 2),
+        constraints: list(case, k + 3),
+        bads: list(case, k + 4),
+        outputs: list(case, k + 5),
+        ends: list(case, k + 6),
+        edges: list(case, k + 7),
+        fairness: list(case, k + 8),
+        counts,
+    }
+}
+
+// A word as a number whose bound the check knows.
 fn wide(word: u32) -> usize
     ensures { result < 2 ^ 32 }
 {

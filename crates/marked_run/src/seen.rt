@@ -1,57 +1,65 @@
 // What is seen of a call, laid out as the table has it: lists, each with its length before it.
-use crate::parts::{after, list_at};
-use edge::Answer;
+use crate::parts::Lists;
+use edge::Refusal;
 use graph::Counts;
 use std::io;
 
-// Writes a word, where there is room, and answers the place after it.
-pub fn put(room: &mut [u32], at: usize, word: u32) -> usize {
-    if room.len() <= at {
-        return room.len();
+// The words so far: as many as there is room for.
+#[derive(Drop)]
+pub struct Seen<'a> {
+    room: &'a mut [u32],
+    // How many there are so far. The room is lent, so it is no `Vec`.
+    at: usize,
+}
+
+impl<'a> Seen<'a> {
+    pub fn new(room: &'a mut [u32]) -> Seen<'a> {
+        Seen { room, at: 0 }
     }
-    room[at] = word;
-    at + 1
-}
 
-// Writes words with no length before them.
-pub fn put_words(room: &mut [u32], at: usize, words: &[u32]) -> usize {
-    let mut to = at;
-    for i in 0..words.len() {
-        to = put(room, to, words[i]);
+    pub fn words(&self) -> &[u32] {
+        if self.room.len() < self.at {
+            return &[];
+        }
+        &self.room[..self.at]
     }
-    to
-}
 
-pub fn put_list(room: &mut [u32], at: usize, words: &[u32]) -> usize {
-    let to = put(room, at, word_of(words.len()));
-    put_words(room, to, words)
-}
-
-// Bytes stand one a word.
-pub fn put_bytes(room: &mut [u32], at: usize, bytes: &[u8]) -> usize {
-    let mut to = put(room, at, word_of(bytes.len()));
-    for i in 0..bytes.len() {
-        to = put(room, to, wide(bytes[i]));
+    // Words with no length before them.
+    pub fn put(&mut self, words: &[u32]) {
+        for word in words {
+            if self.at < self.room.len() {
+                self.room[self.at] = *word;
+                self.at += 1;
+            }
+        }
     }
-    to
-}
 
-// The number and the place of an answer.
-pub fn put_answer(room: &mut [u32], a: Answer) -> usize {
-    let given = edge::told(a);
-    put_list(
-        room,
-        0,
-        &[
-            given.number as u32,
+    pub fn put_list(&mut self, words: &[u32]) {
+        self.put(&[word_of(words.len())]);
+        self.put(words);
+    }
+
+    // Bytes stand one a word.
+    pub fn put_bytes(&mut self, bytes: &[u8]) {
+        self.put(&[word_of(bytes.len())]);
+        for byte in bytes {
+            self.put(&[u32::from(*byte)]);
+        }
+    }
+
+    // The number and the place of an answer.
+    pub fn put_answer(&mut self, answer: Result<(), Refusal>) {
+        let given = edge::told(answer);
+        self.put_list(&[
+            u32::from(given.number),
             word_of(given.place),
             word_of(given.index),
             word_of(given.second),
-        ],
-    )
+        ]);
+    }
 }
 
-// The nine counts as words.
+// The nine counts as words, one by one: they are fields of a struct.
 pub fn counted(n: Counts) -> [u32; 9] {
     [
         word_of(n.rows),
@@ -68,35 +76,16 @@ pub fn counted(n: Counts) -> [u32; 9] {
 
 // A number that is no word stands as the largest one, which is no count and no length of a marked case.
 pub fn word_of(size: usize) -> u32 {
-    if 4294967295 < size {
-        return 4294967295;
-    }
-    size as u32
+    u32::try_from(size).unwrap_or(u32::MAX)
 }
 
 // Prints the lists, each after a bar.
 pub fn say_lists(rt: &impl Print, words: &[u32]) -> io::Result<()> {
-    let mut at = 0;
-    while at < words.len() {
-        rt.write_all(b" |")?;
-        say_words(rt, list_at(words, at))?;
-        at = after(words, at);
+    for list in Lists(words) {
+        print!(rt; " |")?;
+        for word in list {
+            print!(rt; " {word}")?;
+        }
     }
     Ok(())
-}
-
-fn say_words(rt: &impl Print, words: &[u32]) -> io::Result<()> {
-    for i in 0..words.len() {
-        rt.write_all(b" ")?;
-        say_word(rt, words[i])?;
-    }
-    Ok(())
-}
-
-fn say_word(rt: &impl Print, word: u32) -> io::Result<()> {
-    print!(rt; "{word}")
-}
-
-fn wide(byte: u8) -> u32 {
-    byte as u32
 }

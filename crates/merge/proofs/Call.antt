@@ -3,15 +3,15 @@
 use Prim.Native.Nat.{ℕ}
 use native.Mathlib.Omega.{arith}
 use mathlib.Core.Path.{◌≡◌, refl, ap, ◌∙◌}
-use mathlib.Core.Bool.{Bool, true, false, cond, not}
+use mathlib.Core.Bool.{Bool, true, false, cond}
 use mathlib.Core.List.{List}
 use lib.ListN.{length}
-use lib.Dec.{eqb}
-use borrow.Author.Tests.{eqb-true, eqb-false}
-use Rattle.edge.specs.declared.answer.Answer.{Answer}
-use Rattle.edge.specs.declared.answer.Answer.TheVariants.{NoRoom}
-use Rattle.edge.specs.Answers.{done, no_room, told}
-use Rattle.edge.proofs.Answers.{stops_here, goes_past, none_of_two, test_done, test_refused}
+use Rattle.std.specs.Prelude.{Result, Ok, Err}
+use Rattle.edge.specs.declared.answer.Refusal.{Refusal}
+use Rattle.edge.specs.declared.answer.Refusal.TheVariants.{NoRoom}
+use Rattle.edge.specs.declared.answer.Given.{Given}
+use Rattle.edge.specs.Answers.{done, no_room, told, or_else}
+use Rattle.edge.proofs.Answers.{goes_past, none_of_two, not_done, was_done, was_refused}
 use Rattle.graph.specs.declared.Counts.{Counts}
 use Rattle.graph.specs.Graph.{Lent, lent}
 use Rattle.graph.specs.Check.{cleared, CheckSeen, check_seen}
@@ -19,7 +19,6 @@ use Rattle.graph.specs.WellFormed.{WellFormed}
 use Rattle.rows.specs.Rows.{larger}
 use Rattle.two_graphs.specs.Pair.{check_two_call, SizedTwo}
 use Rattle.two_graphs.proofs.Pair.{cleared_fewer, larger_second, exact_two}
-use Rattle.renumber.specs.declared.Rebuilt.{Rebuilt}
 use Rattle.output.specs.Room.{has_room}
 use Rattle.output.proofs.Fitting.{roomy, room_true}
 use Rattle.merge.specs.Merge.{summed, merged, MergeLent}
@@ -63,22 +62,21 @@ module _ (a b : Lent) (marks : List ℕ) where
       let e = (exact_two a b marks).clear ((exact_two a b marks).accepted t.0).0 in
       rw e (cleared_fewer b.counts.rows (larger a.counts.rows b.counts.rows) marks (larger_second a.counts.rows b.counts.rows))
 
-  -- ---- the check: r is what `check_two` answers, `after` are the marks, and d says whether it is done
-  module _ (r : Answer) {after : List ℕ} (seen : check_seen r after ≡ check_two_call a b marks) {d : Bool} (test : d ≡ eqb (told r).number 0) where
+  -- ---- the check: r is what `check_two` answers, and `after` are the marks
+  module _ (r : Result Unit Refusal) {after : List ℕ} (seen : check_seen r after ≡ check_two_call a b marks) where
     given : told r ≡ (check_two_call a b marks).given
     given = ap (λ (s : CheckSeen). s.given) seen
 
     kept : after ≡ (check_two_call a b marks).marks
     kept = ap (λ (s : CheckSeen). s.marks) seen
 
-    pub check_stops : not d ≡ true → check_seen r after ≡ merge_checked a b marks
-    unfolding merge_checked
-    check_stops h =
-        rw (stops_here (check_two_call a b marks).given (cond fits done no_room) (eqb-false (check_two_call a b marks).given.number 0 (test_refused given test h)), given, kept)
+    pub check_stops : {f : Refusal} → r ≡ Err f → check_seen (Err f) after ≡ merge_checked a b marks
+    unfolding merge_checked or_else
+    check_stops {f} e = rw (was_refused given e, not_done f, kept) refl
 
-    module _ (h : not d ≡ false) where
+    module _ (e : r ≡ Ok tt) where
       passed : (check_two_call a b marks).given.number ≡ 0
-      passed = eqb-true (check_two_call a b marks).given.number 0 (test_done given test h)
+      passed = ap (λ (g : Given). g.number) (was_done given e)
 
       right : SizedTwo a b (length marks) × WellFormed a × WellFormed b
       right = (exact_two a b marks).accepted passed
@@ -86,41 +84,33 @@ module _ (a b : Lent) (marks : List ℕ) where
       pub both_addable : Addable a.counts × Addable b.counts
       both_addable = (addable a (length marks) right.0.first, addable b (length marks) right.0.second)
 
-      pub check_room : fits ≡ true → check_seen r after ≡ merge_checked a b marks
+      pub check_room : fits ≡ true → check_seen (Ok tt) after ≡ merge_checked a b marks
       unfolding merge_checked
-      check_room e =
-          let t = given ∙ (exact_two a b marks).accepts right.0 right.1 right.2 in
-          rw (goes_past (check_two_call a b marks).given (cond fits done no_room) passed, e, t, kept)
+      check_room h = rw (goes_past (check_two_call a b marks).given (cond fits done no_room) passed, h, kept) refl
 
-      pub check_full : fits ≡ false → check_seen NoRoom after ≡ merge_checked a b marks
+      pub check_full : fits ≡ false → check_seen (Err NoRoom) after ≡ merge_checked a b marks
       unfolding merge_checked
-      check_full e = rw (goes_past (check_two_call a b marks).given (cond fits done no_room) passed, e, kept)
+      check_full h = rw (goes_past (check_two_call a b marks).given (cond fits done no_room) passed, h, kept) refl
 
   -- ---- the call: r is what the check answers
-  module _ (r : Answer) {after : List ℕ} (seen : check_seen r after ≡ merge_checked a b marks) {d : Bool} (test : d ≡ eqb (told r).number 0) where
+  module _ (r : Result Unit Refusal) {after : List ℕ} (seen : check_seen r after ≡ merge_checked a b marks) where
     told_so : told r ≡ (merge_checked a b marks).given
     told_so = ap (λ (s : CheckSeen). s.given) seen
 
     left : after ≡ (merge_checked a b marks).marks
     left = ap (λ (s : CheckSeen). s.marks) seen
 
-    abbrev rebuilt : Counts → Rebuilt
-    rebuilt n = record { answer = r; counts = n }
-
-    pub merge_refused : not d ≡ true → rebuilt_seen (rebuilt a.counts) a after ≡ merge_call a b marks
+    pub merge_refused : {f : Refusal} → r ≡ Err f → rebuilt_seen (Err f) a after ≡ merge_call a b marks
     unfolding merge_call
-    merge_refused h = rw (test_refused told_so test h, told_so, left)
+    merge_refused {f} e = rw (was_refused told_so e, not_done f, left) refl
 
-    module _ (h : not d ≡ false) where
-      is_done : eqb (merge_checked a b marks).given.number 0 ≡ true
-      is_done = test_done told_so test h
-
-      free : (merge_checked a b marks).given.number ≡ 0
-      free = eqb-true (merge_checked a b marks).given.number 0 is_done
+    module _ (e : r ≡ Ok tt) where
+      free : (merge_checked a b marks).given ≡ done
+      free = was_done told_so e
 
       pub ready : {n : ℕ} → length marks ≡ n → MergeLent a b n
-      ready e = rw e at (merge_accepted free)
+      ready l = rw l at (merge_accepted (ap (λ (g : Given). g.number) free))
 
-      pub merge_done : (n : Counts) {g : Lent} {last : List ℕ} → g ≡ merged a b → last ≡ cleared b.counts.rows after → rebuilt_seen (rebuilt n) g last ≡ merge_call a b marks
+      pub merge_done : (n : Counts) {g : Lent} {last : List ℕ} → g ≡ merged a b → last ≡ cleared b.counts.rows after → rebuilt_seen (Ok n) g last ≡ merge_call a b marks
       unfolding merge_call
-      merge_done n e w = rw (is_done, told_so, e, w ∙ (ap (cleared b.counts.rows) left ∙ still_clear free))
+      merge_done n h w = rw (free, h, w ∙ (ap (cleared b.counts.rows) left ∙ still_clear (ap (λ (g : Given). g.number) free))) refl

@@ -221,10 +221,6 @@ module _ (a b : Lent) (marks : ℕ) (l : MergeLent a b marks) where
   abbrev all : List ℕ
   all = take (a.counts.inputs + b.counts.inputs) g.inputs ++ latch_inputs g.latches (a.counts.latches + b.counts.latches)
 
-  listed_all : listed g ≡ all
-  unfolding merged summed
-  listed_all = refl
-
   fit : a.counts.inputs + b.counts.inputs ≤ length g.inputs
   unfolding merged
   fit = rw (written_length a.inputs a.counts.inputs (ids_of m b.inputs) b.counts.inputs) (inputs_room a b.counts l.room)

@@ -9,8 +9,9 @@ use mathlib.Core.Logic.{inl, inr, ⊎_elim}
 use mathlib.Core.List.{List, ◌++◌}
 use lib.ListN.{length, get_or, set, take, drop, replicate, length-drop}
 use lib.Seq.{get_or-drop, take_all}
+use Rattle.std.proofs.lemmas.List.{get_or-take, length-take-le}
 use lib.Dec.{eqb, ltb}
-use borrow.Author.Tests.{ltb-true, ltb-false, eqb-true, eqb-false, eq-eqb, ne_eqb}
+use borrow.Author.Tests.{ltb-true, ltb-false, eqb-true, eq-eqb, ne_eqb}
 use Rattle.edge.specs.Edges.{id_of}
 use Rattle.edge.proofs.Tests.{either, false_true}
 use Rattle.rows.specs.Sizes.{max_rows}
@@ -23,7 +24,9 @@ use Rattle.renumber.specs.Renumber.{renamed, edges_of, ids_of, Lists, lists_of, 
 use Rattle.renumber.specs.Steps.{IdsReady, ListsReady}
 use Rattle.renumber.specs.Steps.{MarksHold, Small, ListsRoom}
 use Rattle.output.specs.Room.{Room}
-use Rattle.output.proofs.Writing.{written_turn, written_same, written_at_lem, written_drop}
+use Rattle.output.specs.Copying.{words_of, copied}
+use Rattle.output.proofs.Writing.{written_length, written_turn, written_same, written_at_lem, written_drop}
+use Rattle.output.proofs.Copying.{copied_whole}
 use Rattle.renumber.proofs.Mapping.{lists_used, renumber_by, known, lists_ready}
 use Rattle.renumber.proofs.Rowing.{Reaches, words_reach}
 use Rattle.merge.specs.Merge.{shifted, offset, summed, merged, MergeLent}
@@ -68,10 +71,6 @@ module _ (a : Lent) (n : Counts) (r : Room a (summed a.counts n)) where
         fairness = r.fairness;
       }
 
--- a part that runs to the end of a list
-pub tail : (n : ℕ) (list : List ℕ) → take (length list - n) (drop n list) ≡ drop n list
-tail n list = take_all (length list - n) (drop n list) (le_of_eq (length-drop n list))
-
 -- ---- a word moved
 module _ (n e : ℕ) where
   pub moved_kept : ltb e 2 || eqb e none ≡ true → e ≡ renamed (shifted n) e
@@ -97,13 +96,23 @@ module _ (n e : ℕ) where
     unfolding renamed shifted
     moved_on = let t = moves h in rw (t.1, ne_eqb (id_of e) 0 (λ (z : id_of e ≡ 0). absurd (omega (arith, t.0)))) (omega arith)
 
-    pub moved_small : Movable n e → id_of e + n ≤ max_rows
-    moved_small m = m (eqb-false e none (moves h).1)
-
 -- ---- the map
 -- a turn of the loop that fills it in
 pub filled_turn : (f : ℕ → ℕ) (marks : List ℕ) (j : ℕ) {now : List ℕ} {v : ℕ} → now ≡ written marks 0 f j → v ≡ f j → set now j v ≡ written marks 0 f (j + 1)
 filled_turn f marks j {now} {v} e w = let z : 0 + j ≡ j = omega arith in ap (λ (k : ℕ). set now k v) (sym z) ∙ written_turn marks 0 f j e w
+
+-- the front of the marks is written, before the rest
+pub filled_front : (f : ℕ → ℕ) (n : ℕ) (marks : List ℕ) {front : List ℕ} → front ≡ written (take n marks) 0 f (length (take n marks)) → n ≤ length marks
+    → front ++ drop n marks ≡ written marks 0 f n
+unfolding copied
+filled_front f n marks {front} e h =
+    let l : length (take n marks) ≡ n = length-take-le n marks h in
+    let is : front ≡ written (take n marks) 0 f n = rw l at e in
+    let long : length front ≡ n = rw is (written_length (take n marks) 0 f n ∙ l) in
+    ap (λ (t : List ℕ). t ++ drop n marks) (sym (take_all n front (le_of_eq long))) ∙ (copied_whole marks front n (le_of_eq (sym long)) h ∙
+    written_same marks 0 (words_of front) f n
+    (λ j k. let z : 0 + j ≡ j = omega arith in ap (λ (t : List ℕ). get_or t j 0) is ∙ (ap (λ (i : ℕ). get_or (written (take n marks) 0 f n) i 0) (sym z) ∙ written_at_lem (take n marks) 0 f n j
+    (omega (arith, l)) k)))
 
 -- the marks hold it
 pub filled : (f : ℕ → ℕ) (n : ℕ) (marks : List ℕ) {map : List ℕ} → map ≡ written marks 0 f n → n ≤ length marks → MarksHold n f map
@@ -143,14 +152,26 @@ module _ (a b : Lent) (marks : ℕ) (l : MergeLent a b marks) where
   movable e (inl q) n = absurd (n q)
   movable e (inr k) n = omega (arith, few, l.sized.first.rows.some)
 
-  pub rows_ready : RowsReady (offset a) a.rows (2 * a.counts.rows) (drop 2 b.rows) behind
+  -- the words of the rows behind row 0
+  abbrev pub words : List ℕ
+  words = take (2 * used - 2) (drop 2 b.rows)
+
+  words_long : length words ≡ behind
+  words_long = length-take-le (2 * used - 2) (drop 2 b.rows) (rw (length-drop 2 b.rows) (omega (arith, l.sized.second.rows.fit.within))) ∙ omega (arith, l.sized.second.rows.some)
+
+  word_at : (j : ℕ) → j < behind → get_or words j 0 ≡ get_or (drop 2 b.rows) j 0
+  word_at j h = get_or-take (2 * used - 2) (drop 2 b.rows) j 0 (omega arith)
+
+  pub rows_ready : RowsReady (offset a) a.rows (2 * a.counts.rows) words
   rows_ready =
       record {
-        room = omega (arith, rows_room a b.counts l.room, l.sized.first.rows.some, l.sized.second.rows.some);
-        has = rw (length-drop 2 b.rows) (omega (arith, l.sized.second.rows.fit.within));
-        small = omega (arith, few);
-        movable = λ j k. movable (get_or (drop 2 b.rows) j 0) (reach j k);
+        room = omega (arith, words_long, rows_room a b.counts l.room, l.sized.first.rows.some, l.sized.second.rows.some);
+        movable = λ j k. let h : j < behind = omega (arith, words_long) in rw (word_at j h) (movable (get_or (drop 2 b.rows) j 0) (reach j h));
       }
+
+  rows_by : written a.rows (2 * a.counts.rows) (edges_of m words) (length words) ≡ written a.rows (2 * a.counts.rows) (edges_of m (drop 2 b.rows)) behind
+  rows_by =
+      rw words_long (written_same a.rows (2 * a.counts.rows) (edges_of m words) (edges_of m (drop 2 b.rows)) behind (λ j h. ap (renamed m) (word_at j h)))
 
   module _ (map : List ℕ) (h : MarksHold used m map) where
     pub inputs_by : written a.inputs a.counts.inputs (ids_of (by map) b.inputs) b.counts.inputs ≡ written a.inputs a.counts.inputs (ids_of m b.inputs) b.counts.inputs
@@ -178,9 +199,9 @@ module _ (a b : Lent) (marks : ℕ) (l : MergeLent a b marks) where
 
   -- ---- the whole
   pub whole : (map : List ℕ) → MarksHold used m map → {rows inputs : List ℕ} {ls : Lists}
-      → rows ≡ written a.rows (2 * a.counts.rows) (edges_of m (drop 2 b.rows)) behind
+      → rows ≡ written a.rows (2 * a.counts.rows) (edges_of m words) (length words)
       → inputs ≡ written a.inputs a.counts.inputs (ids_of (by map) b.inputs) b.counts.inputs
       → ls ≡ renumber (by map) (lists_of a) a.counts (lists_of b) b.counts
       → graph_of rows inputs ls (summed a.counts b.counts) ≡ merged a b
   unfolding merged
-  whole map h p q r = rw (p, q ∙ inputs_by map h, r ∙ lists_by map h)
+  whole map h p q r = rw (p ∙ rows_by, q ∙ inputs_by map h, r ∙ lists_by map h)

@@ -6,8 +6,7 @@ use Rattle.rows.specs.Reading.{if_done}
 use Rattle.graph.specs.Graph.{Lent}
 use Rattle.graph.specs.Check.{CheckSeen}
 use Rattle.two_graphs.specs.Pair.{check_two_call}
-use Rattle.renumber.specs.declared.Rebuilt.{Rebuilt}
-use Rattle.renumber.specs.Seen.{RebuiltSeen, rebuilt_seen, SameRebuilt, rebuilt_determined}
+use Rattle.renumber.specs.Seen.{Rebuilt, RebuiltSeen, rebuilt_seen, SameRebuilt, rebuilt_determined}
 use Rattle.output.specs.Room.{has_room}
 use Rattle.merge.specs.Merge.{summed, merged}
 

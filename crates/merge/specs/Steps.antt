@@ -10,12 +10,10 @@ use Rattle.graph.specs.declared.Counts.{Counts}
 abbrev pub Movable : ℕ → ℕ → Type 0
 Movable by e = (e ≡ none → ⊥) → id_of e + by ≤ max_rows
 
--- n words of rows can be moved, and there is room for them from `at` on
-pub record RowsReady (by : ℕ) (out : List ℕ) (at : ℕ) (list : List ℕ) (n : ℕ) : Type 0 where
-  pub room : at + n ≤ length out
-  pub has : n ≤ length list
-  pub small : by ≤ max_rows
-  pub movable : (j : ℕ) → j < n → Movable by (get_or list j 0)
+-- words of rows can be moved, and there is room for them from `at` on
+pub record RowsReady (by : ℕ) (out : List ℕ) (at : ℕ) (words : List ℕ) : Type 0 where
+  pub room : at + length words ≤ length out
+  pub movable : (j : ℕ) → j < length words → Movable by (get_or words j 0)
 
 -- counts that can be added
 pub record Addable (n : Counts) : Type 0 where

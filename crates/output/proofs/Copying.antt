@@ -1,31 +1,38 @@
 -- Laws of a copy.
 -- Assumes nothing.
-use Prim.Native.Nat.{ℕ, ◌+◌, ◌*◌, ◌≤◌}
+use Prim.Native.Nat.{ℕ, zero, suc, ◌+◌, ◌*◌, ◌≤◌}
 use native.Mathlib.Omega.{arith}
 use mathlib.Core.Path.{◌≡◌, refl}
-use mathlib.Core.List.{List}
-use lib.ListN.{length, get_or, set}
+use mathlib.Core.List.{List, [], ◌∷◌, ◌++◌}
+use lib.ListN.{length, get_or, set, take, drop}
+use lib.Seq.{take-suc, drop-cons, set-append_seam}
+use Rattle.std.proofs.lemmas.List.{length-take-le, append_assoc}
 use Rattle.graph.specs.declared.Counts.{Counts}
 use Rattle.graph.specs.Latches.{latch_words}
 use Rattle.graph.specs.Graph.{Lent, lent}
 use Rattle.output.specs.Writing.{written}
-use Rattle.output.proofs.Writing.{written_length, written_turn, written_at_lem, written_after}
+use Rattle.output.proofs.Writing.{written_length, written_at_lem, written_after}
 use Rattle.output.specs.Room.{Room}
 use Rattle.output.specs.Copying.{words_of, copied, copy_of}
 use Rattle.output.specs.Meaning.{Front, IsCopy}
 
 -- ---- a list
 module _ (out list : List ℕ) where
-  pub none_copied : out ≡ copied out list 0
+  -- word after word, it is the list's front before the rest
+  pub copied_whole : (n : ℕ) → n ≤ length list → n ≤ length out → take n list ++ drop n out ≡ copied out list n
   unfolding copied written
-  none_copied = refl
-
-  pub copied_turn : (j : ℕ) {now : List ℕ} → now ≡ copied out list j → set now j (get_or list j 0) ≡ copied out list (j + 1)
-  unfolding copied
-  copied_turn j {now} e =
-      let z : 0 + j ≡ j = omega arith in
-      let t : set now (0 + j) (get_or list j 0) ≡ written out 0 (words_of list) (j + 1) = written_turn out 0 (words_of list) j e refl in
-      rw z at t
+  copied_whole zero h r = refl
+  copied_whole (suc n) h r =
+      let e : take n list ++ drop n out ≡ written out 0 (words_of list) n = copied_whole n (omega arith) (omega arith) in
+      let z : 0 + n ≡ n = omega arith in
+      let long : length (take n list) ≡ n = length-take-le n list (omega arith) in
+      rw (← e, z) (turn long)
+    where
+      turn : length (take n list) ≡ n → take (suc n) list ++ drop (suc n) out ≡ set (take n list ++ drop n out) n (get_or list n 0)
+      turn long =
+          let seam : set (take n list ++ (get_or out n 0 ∷ drop (suc n) out)) n (get_or list n 0) ≡ take n list ++ (get_or list n 0 ∷ drop (suc n) out) =
+          rw long at (set-append_seam (take n list) (get_or out n 0) (drop (suc n) out) (get_or list n 0)) in
+          rw (drop-cons out n 0 (omega arith), seam, take-suc list n 0 (omega arith), append_assoc (take n list) (get_or list n 0 ∷ []) (drop (suc n) out)) refl
 
   -- what it holds
   pub front : (n : ℕ) → n ≤ length out → Front n list out (copied out list n)

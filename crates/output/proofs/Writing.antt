@@ -4,12 +4,13 @@ use Prim.Native.Nat.{ℕ, zero, suc, ◌+◌, ◌≤◌, ◌<◌}
 use native.Mathlib.Omega.{arith}
 use native.Mathlib.Nat.{eq-or-lt_of_le}
 use native.Mathlib.Numerals.{add-one}
-use mathlib.Core.Path.{◌≡◌, refl, ◌∙◌}
+use mathlib.Core.Path.{◌≡◌, refl, ap, ◌∙◌}
 use mathlib.Core.Logic.{⊎_elim}
 use mathlib.Core.List.{List}
-use lib.ListN.{length, get_or, set, drop, length-set}
+use lib.ListN.{length, get_or, set, take, drop, length-set}
 use lib.Seq.{get_or-set_same, get_or-set_other, drop-set-lt}
-use Rattle.output.specs.Writing.{written}
+use Rattle.std.proofs.lemmas.List.{get_or-take, length-take-le}
+use Rattle.output.specs.Writing.{written, each_of}
 
 pub written_length : (list : List ℕ) (at : ℕ) (f : ℕ → ℕ) (n : ℕ) → length (written list at f n) ≡ length list
 unfolding written
@@ -27,6 +28,12 @@ pub written_same : (list : List ℕ) (at : ℕ) (f g : ℕ → ℕ) (n : ℕ) �
 unfolding written
 written_same list at f g zero h = refl
 written_same list at f g (suc n) h = rw (written_same list at f g n (λ j l. h j (omega arith)), h n (omega arith))
+
+-- of the first n words of a list
+pub each_taken : (out : List ℕ) (at : ℕ) (of : ℕ → ℕ) (list : List ℕ) (n : ℕ) → n ≤ length list
+    → written out at (each_of of (take n list)) (length (take n list)) ≡ written out at (each_of of list) n
+each_taken out at of list n h =
+    rw (length-take-le n list h) (written_same out at (each_of of (take n list)) (each_of of list) n (λ j l. ap of (get_or-take n list j 0 l)))
 
 -- ---- what stands there afterwards
 module _ (list : List ℕ) (at : ℕ) (f : ℕ → ℕ) where

@@ -1,4 +1,5 @@
 pub mod Room
+pub mod Tables
 pub mod Writing
 pub mod Copying
 pub mod Meaning

@@ -2,18 +2,20 @@
 // old words and counts are not looked at.
 #![tactic(auto)]
 
-ghost use Rattle.std.specs.Prelude.{◌≡◌};
-ghost use Rattle.graph.specs.Graph.{lent};
+mod tables;
+
+ghost use Rattle.std.specs.Prelude.{ℕ, ◌≡◌, ◌+◌, ◌≤◌, length};
+ghost use Rattle.graph.specs.Graph.{lent_of};
 ghost use Rattle.graph.specs.Check.{check_seen};
 ghost use Rattle.output.specs.Room.{limits_in, fits_in};
-ghost use Rattle.output.specs.Copying.{copied, copy_of};
-ghost use Rattle.output.specs.Steps.{WordsFit, CopyFits};
 ghost use Rattle.output.specs.Asking.{asked_in};
+ghost use Rattle.output.specs.Writing.{written, each_of};
+ghost use Rattle.output.specs.Steps.{TakesEach, GivesEach};
 
-use edge::Answer;
-use graph::Counts;
-use graph::latch::LATCH_WORDS;
+use edge::Refusal;
+use graph::{Counts, Graph};
 use rows::sizes::{MAX_ENTRIES, MAX_ROWS};
+pub use tables::{Tables, copy_words};
 
 // Does room for so many entries pass no limit?
 pub fn within(room: Counts) -> bool
@@ -45,95 +47,20 @@ pub fn fits(room: Counts, need: Counts) -> bool
         & (need.fairness <= room.fairness)
 }
 
-// Copies the first n words of a list.
-pub fn copy_words(out: &mut [u32], list: &[u32], n: usize)
-    requires { WordsFit out.old list.now n }
-    ensures { out.new ≡ copied out.old list.now n }
+// Writes what f makes of each word of the list, from place `at` on.
+pub fn write_each<F: Fn(u32) -> u32>(out: &mut [u32], at: usize, list: &[u32], f: F)
+    requires room { at + length list.now ≤ length out.old }
+    requires takes { TakesEach F.Fn f list.now }
+    ensures { (of : ℕ → ℕ) → GivesEach F.Fn f of → out.new ≡ written out.old at (each_of of list.now) (length list.now) }
 {
-    for j in 0..n {
-        out[j] = list[j];
+    for (j, word) in list.iter().enumerate() {
+        out[at + j] = f(*word);
     }
-}
-
-// Copies of each list as many entries as n counts.
-pub fn copy_graph(
-    rows: &[u32],
-    inputs: &[u32],
-    latches: &[u32],
-    constraints: &[u32],
-    bads: &[u32],
-    outputs: &[u32],
-    ends: &[u32],
-    edges: &[u32],
-    fairness: &[u32],
-    n: Counts,
-    rows2: &mut [u32],
-    inputs2: &mut [u32],
-    latches2: &mut [u32],
-    constraints2: &mut [u32],
-    bads2: &mut [u32],
-    outputs2: &mut [u32],
-    ends2: &mut [u32],
-    edges2: &mut [u32],
-    fairness2: &mut [u32],
-)
-    requires { CopyFits (lent rows.now inputs.now latches.now constraints.now bads.now outputs.now ends.now edges.now fairness.now n)
-        (lent rows2.old inputs2.old latches2.old constraints2.old bads2.old outputs2.old ends2.old edges2.old fairness2.old n) n }
-    ensures { lent rows2.new inputs2.new latches2.new constraints2.new bads2.new outputs2.new ends2.new edges2.new fairness2.new n
-        ≡ copy_of n
-        (lent rows.now inputs.now latches.now constraints.now bads.now outputs.now ends.now edges.now fairness.now n)
-        (lent rows2.old inputs2.old latches2.old constraints2.old bads2.old outputs2.old ends2.old edges2.old fairness2.old n) }
-{
-    copy_words(rows2, rows, 2 * n.rows);
-    copy_words(inputs2, inputs, n.inputs);
-    copy_words(latches2, latches, LATCH_WORDS * n.latches);
-    copy_words(constraints2, constraints, n.constraints);
-    copy_words(bads2, bads, n.bads);
-    copy_words(outputs2, outputs, n.outputs);
-    copy_words(ends2, ends, n.sets);
-    copy_words(edges2, edges, n.edges);
-    copy_words(fairness2, fairness, n.fairness);
 }
 
 // Answers 1 to 4 of a call that writes a graph into so much room: of the graph that is given, and `good` where no argument is wrong.
-pub fn asked(
-    rows: &[u32],
-    inputs: &[u32],
-    latches: &[u32],
-    constraints: &[u32],
-    bads: &[u32],
-    outputs: &[u32],
-    ends: &[u32],
-    edges: &[u32],
-    fairness: &[u32],
-    counts: Counts,
-    good: bool,
-    room: Counts,
-    marks: &mut [u32],
-) -> Answer
-    ensures { check_seen result marks.new
-        ≡ asked_in good
-        (lent rows.now inputs.now latches.now constraints.now bads.now outputs.now ends.now edges.now fairness.now counts)
-        room marks.old }
+pub fn asked(graph: &Graph, good: bool, room: Counts, marks: &mut [u32]) -> Result<(), Refusal>
+    ensures { check_seen result marks.new ≡ asked_in good (lent_of graph.now) room marks.old }
 {
-    if !within(room) {
-        return Answer::BadSizes;
-    }
-    let answer = graph::check(
-        rows,
-        inputs,
-        latches,
-        constraints,
-        bads,
-        outputs,
-        ends,
-        edges,
-        fairness,
-        counts,
-        marks,
-    );
-    if edge::is_done(answer) & !good {
-        return Answer::BadArgument;
-    }
-    answer
+    root_marks::asked(graph, within(room), good, marks)
 }

@@ -2,17 +2,17 @@
 -- Assumes nothing.
 use Prim.Native.Nat.{ℕ}
 use native.Mathlib.Omega.{arith}
-use mathlib.Core.Path.{◌≡◌, refl, ap, ◌∙◌}
-use mathlib.Core.Bool.{Bool, true, false, cond, not}
+use mathlib.Core.Path.{◌≡◌, refl, sym, ap, ◌∙◌}
+use mathlib.Core.Bool.{Bool, true, false, cond}
 use mathlib.Core.List.{List}
 use lib.ListN.{length}
-use lib.Dec.{eqb}
-use borrow.Author.Tests.{eqb-true, eqb-false}
-use Rattle.edge.specs.declared.answer.Answer.{Answer}
-use Rattle.edge.specs.declared.answer.Answer.TheVariants.{BadSizes, NoRoom}
+use borrow.Author.Tests.{eqb-false}
+use Rattle.std.specs.Prelude.{Ok, Err}
+use Rattle.edge.specs.declared.answer.Refusal.{Refusal}
+use Rattle.edge.specs.declared.answer.Refusal.TheVariants.{BadSizes, NoRoom}
 use Rattle.edge.specs.declared.answer.Given.{Given}
-use Rattle.edge.specs.Answers.{done, bad_sizes, no_room, told, or_else}
-use Rattle.edge.proofs.Answers.{stops_here, goes_past, none_of_two, test_done, test_refused}
+use Rattle.edge.specs.Answers.{done, bad_sizes, no_room, refused, or_else}
+use Rattle.edge.proofs.Answers.{stops_here, goes_past, none_of_two, not_done}
 use Rattle.graph.specs.Graph.{Lent, Sized}
 use Rattle.graph.specs.Check.{CheckSeen, check_seen, check_call}
 use Rattle.graph.specs.WellFormed.{WellFormed}
@@ -59,36 +59,34 @@ module _ (limits room : Bool) (g : Lent) (marks : List ℕ) where
   unfolding change_checked
   change_accepts a = rw (a.limited, (exact g marks).accepts a.sized a.well_formed, a.has_room) (goes_past done done refl)
 
-  pub limit_passed : limits ≡ false → check_seen BadSizes marks ≡ change_checked limits room g marks
+  pub limit_passed : limits ≡ false → check_seen (Err BadSizes) marks ≡ change_checked limits room g marks
   unfolding change_checked
   limit_passed e = rw e
 
-  -- r is what `check` answers, `after` are the marks, and d says whether it is done
-  module _ (within : limits ≡ true) (r : Answer) {after : List ℕ} (seen : check_seen r after ≡ check_call g marks) {d : Bool} (test : d ≡ eqb (told r).number 0) where
-    given : told r ≡ (check_call g marks).given
-    given = ap (λ (s : CheckSeen). s.given) seen
-
-    kept : after ≡ (check_call g marks).marks
-    kept = ap (λ (s : CheckSeen). s.marks) seen
-
-    pub check_stops : not d ≡ true → check_seen r after ≡ change_checked limits room g marks
+  -- `after` are the marks behind the check of the graph
+  module _ (within : limits ≡ true) (after : List ℕ) where
+    pub check_stops : (f : Refusal) → check_seen (Err f) after ≡ check_call g marks → check_seen (Err f) after ≡ change_checked limits room g marks
     unfolding change_checked
-    check_stops h =
-        rw (within, stops_here (check_call g marks).given last (eqb-false (check_call g marks).given.number 0 (test_refused given test h)), given, kept)
+    check_stops f seen =
+        let given : refused f ≡ (check_call g marks).given = ap (λ (s : CheckSeen). s.given) seen in
+        let kept : after ≡ (check_call g marks).marks = ap (λ (s : CheckSeen). s.marks) seen in
+        let stopped : (check_call g marks).given.number ≡ 0 → ⊥ = λ z. eqb-false _ _ (not_done f) (ap (λ (t : Given). t.number) given ∙ z) in
+        rw (within, stops_here (check_call g marks).given last stopped, ← given, ← kept) refl
 
-    module _ (h : not d ≡ false) where
+    module _ (seen : check_seen (Ok tt) after ≡ check_call g marks) where
       passed : (check_call g marks).given.number ≡ 0
-      passed = eqb-true (check_call g marks).given.number 0 (test_done given test h)
+      passed = ap (λ (s : CheckSeen). s.given.number) (sym seen)
+
+      kept : after ≡ (check_call g marks).marks
+      kept = ap (λ (s : CheckSeen). s.marks) seen
 
       pub check_right : Sized g (length marks) × WellFormed g
       check_right = (exact g marks).accepted passed
 
-      pub check_room : room ≡ true → check_seen r after ≡ change_checked limits room g marks
+      pub check_room : room ≡ true → check_seen (Ok tt) after ≡ change_checked limits room g marks
       unfolding change_checked
-      check_room e =
-          let t = given ∙ (exact g marks).accepts check_right.0 check_right.1 in
-          rw (within, goes_past (check_call g marks).given last passed, e, t, kept)
+      check_room e = rw (within, goes_past (check_call g marks).given last passed, e, kept) refl
 
-      pub check_full : room ≡ false → check_seen NoRoom after ≡ change_checked limits room g marks
+      pub check_full : room ≡ false → check_seen (Err NoRoom) after ≡ change_checked limits room g marks
       unfolding change_checked
-      check_full e = rw (within, goes_past (check_call g marks).given last passed, e, kept)
+      check_full e = rw (within, goes_past (check_call g marks).given last passed, e, kept) refl

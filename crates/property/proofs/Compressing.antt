@@ -2,15 +2,17 @@
 -- Assumes nothing.
 use Prim.Native.Nat.{ℕ, ◌/◌}
 use native.Mathlib.Omega.{arith}
-use mathlib.Core.Path.{◌≡◌, ap, ◌∙◌}
-use mathlib.Core.Bool.{Bool, true, false, not, ◌&&◌}
+use mathlib.Core.Path.{◌≡◌, refl, sym, ap, ◌∙◌}
+use mathlib.Core.Bool.{Bool, true, false, ◌&&◌}
 use mathlib.Core.List.{List, []}
 use lib.ListN.{length, set}
 use lib.Dec.{eqb, ltb, leb}
 use borrow.Author.Tests.{eqb-true, ltb-true, leb-true}
-use Rattle.edge.specs.declared.answer.Answer.{Answer}
-use Rattle.edge.specs.Answers.{told}
-use Rattle.edge.proofs.Answers.{test_done, test_refused}
+use Rattle.std.specs.Prelude.{Ok, Err}
+use Rattle.edge.specs.declared.answer.Refusal.{Refusal}
+use Rattle.edge.specs.declared.answer.Given.{Given}
+use Rattle.edge.specs.Answers.{done, refused}
+use Rattle.edge.proofs.Answers.{not_done}
 use Rattle.edge.proofs.Tests.{both}
 use Rattle.rows.specs.Sizes.{max_entries, rows_lent}
 use Rattle.graph.specs.declared.Counts.{Counts}
@@ -19,7 +21,6 @@ use Rattle.graph.specs.Check.{CheckSeen, check_seen}
 use Rattle.gates.specs.Gates.{State, state}
 use Rattle.gates.specs.Lists.{list_of}
 use Rattle.gates.proofs.Listing.{list_like}
-use Rattle.renumber.specs.declared.Rebuilt.{Rebuilt}
 use Rattle.renumber.specs.Seen.{listed_seen}
 use Rattle.property.specs.Compress.{bads_of, or_of, one_bad, compressed, compress_room, compress_checked, compress_call}
 use Rattle.property.specs.Steps.{OrReady, CompressReady, Compressing}
@@ -63,24 +64,24 @@ module _ (g : Lent) (old marks : List ℕ) where
   unfolding compress_checked
   compress_accepted z = change_accepted (leb (length old) max_entries) (compress_room g old) g marks z
 
-  -- the call: r is what the check answers, `after` are the marks, and d says whether it is done
-  module _ (r : Answer) {after : List ℕ} (seen : check_seen r after ≡ compress_checked g old marks) {d : Bool} (test : d ≡ eqb (told r).number 0) where
-    told_so : told r ≡ (compress_checked g old marks).given
-    told_so = ap (λ (s : CheckSeen). s.given) seen
-
-    left : after ≡ (compress_checked g old marks).marks
-    left = ap (λ (s : CheckSeen). s.marks) seen
-
-    abbrev rebuilt : Counts → Rebuilt
-    rebuilt n = record { answer = r; counts = n }
-
-    pub compress_refused : not d ≡ true → listed_seen (rebuilt g.counts) g old after ≡ compress_call g old marks
+  -- the call: `after` are the marks behind the check
+  module _ (after : List ℕ) where
+    pub compress_refused : (f : Refusal) → check_seen (Err f) after ≡ compress_checked g old marks → listed_seen (Err f) g old after ≡ compress_call g old marks
     unfolding compress_call
-    compress_refused h = rw (test_refused told_so test h, told_so, left)
+    compress_refused f seen =
+        let told_so : refused f ≡ (compress_checked g old marks).given = ap (λ (s : CheckSeen). s.given) seen in
+        let left : after ≡ (compress_checked g old marks).marks = ap (λ (s : CheckSeen). s.marks) seen in
+        rw (← told_so, ← left, not_done f) refl
 
-    module _ (h : not d ≡ false) where
+    module _ (seen : check_seen (Ok tt) after ≡ compress_checked g old marks) where
+      told_so : done ≡ (compress_checked g old marks).given
+      told_so = ap (λ (s : CheckSeen). s.given) seen
+
+      left : after ≡ (compress_checked g old marks).marks
+      left = ap (λ (s : CheckSeen). s.marks) seen
+
       is_done : eqb (compress_checked g old marks).given.number 0 ≡ true
-      is_done = test_done told_so test h
+      is_done = ap (λ (t : Given). eqb t.number 0) (sym told_so)
 
       pub compress_ready : CompressReady g.counts.rows g.bads g.counts.bads old
       compress_ready =
@@ -89,7 +90,7 @@ module _ (g : Lent) (old marks : List ℕ) where
 
       pub compress_done : (rows bads back : List ℕ) (used : ℕ) {n : Counts} → Compressing g.rows g.counts.rows g.bads g.counts.bads old rows bads back used
           → n ≡ one_bad g.counts used
-          → listed_seen (rebuilt n) (lent rows g.inputs g.latches g.constraints bads g.outputs g.ends g.edges g.fairness n) back after ≡ compress_call g old marks
+          → listed_seen (Ok n) (lent rows g.inputs g.latches g.constraints bads g.outputs g.ends g.edges g.fairness n) back after ≡ compress_call g old marks
       unfolding compress_call compressed or_of
       compress_done rows bads back used {n} c e =
           let s : state rows used c.edge ≡ list_of false true g.rows g.counts.rows (bads_of g) = c.built in

@@ -9,9 +9,11 @@ use mathlib.Core.List.{List, []}
 use lib.ListN.{length}
 use lib.Dec.{eqb, ltb, leb}
 use borrow.Author.Tests.{not-true, not-false, eq-eqb, ne_eqb, eqb-true, ltb-true, leb-true}
-use Rattle.edge.specs.declared.answer.Answer.{Answer}
-use Rattle.edge.specs.Answers.{told}
-use Rattle.edge.proofs.Answers.{test_done, test_refused}
+use Rattle.std.specs.Prelude.{Ok, Err}
+use Rattle.edge.specs.declared.answer.Refusal.{Refusal}
+use Rattle.edge.specs.declared.answer.Given.{Given}
+use Rattle.edge.specs.Answers.{done, refused}
+use Rattle.edge.proofs.Answers.{not_done}
 use Rattle.edge.proofs.Tests.{both, either, false_true}
 use Rattle.rows.specs.Sizes.{max_rows, rows_lent}
 use Rattle.graph.specs.declared.Counts.{Counts}
@@ -20,7 +22,6 @@ use Rattle.graph.specs.Graph.{Lent, Sized}
 use Rattle.graph.specs.Check.{CheckSeen, check_seen}
 use Rattle.graph.specs.WellFormed.{WellFormed}
 use Rattle.gates.specs.Gates.{leaf_added}
-use Rattle.renumber.specs.declared.Rebuilt.{Rebuilt}
 use Rattle.renumber.specs.Seen.{rebuilt_seen}
 use Rattle.property.specs.Steps.{any_gated, StepsReady, GateReady}
 use Rattle.property.specs.GateInit.{Gating, gating, gate_steps, inits_taken, Part, part, part_of, with_part, gated_all}
@@ -112,24 +113,24 @@ module _ (g : Lent) (marks : List ℕ) where
   unfolding gate_init_checked
   gate_init_accepted z = change_accepted true (gate_room (part_of g)) g marks z
 
-  -- the call: r is what the check answers, `after` are the marks, and d says whether it is done
-  module _ (r : Answer) {after : List ℕ} (seen : check_seen r after ≡ gate_init_checked g marks) {d : Bool} (test : d ≡ eqb (told r).number 0) where
-    told_so : told r ≡ (gate_init_checked g marks).given
-    told_so = ap (λ (s : CheckSeen). s.given) seen
-
-    left : after ≡ (gate_init_checked g marks).marks
-    left = ap (λ (s : CheckSeen). s.marks) seen
-
-    abbrev rebuilt : Counts → Rebuilt
-    rebuilt n = record { answer = r; counts = n }
-
-    pub gate_init_refused : not d ≡ true → rebuilt_seen (rebuilt g.counts) g after ≡ gate_init_call g marks
+  -- the call: `after` are the marks behind the check
+  module _ (after : List ℕ) where
+    pub gate_init_refused : (f : Refusal) → check_seen (Err f) after ≡ gate_init_checked g marks → rebuilt_seen (Err f) g after ≡ gate_init_call g marks
     unfolding gate_init_call
-    gate_init_refused h = rw (test_refused told_so test h, told_so, left)
+    gate_init_refused f seen =
+        let told_so : refused f ≡ (gate_init_checked g marks).given = ap (λ (s : CheckSeen). s.given) seen in
+        let left : after ≡ (gate_init_checked g marks).marks = ap (λ (s : CheckSeen). s.marks) seen in
+        rw (← told_so, ← left, not_done f) refl
 
-    module _ (h : not d ≡ false) where
+    module _ (seen : check_seen (Ok tt) after ≡ gate_init_checked g marks) where
+      told_so : done ≡ (gate_init_checked g marks).given
+      told_so = ap (λ (s : CheckSeen). s.given) seen
+
+      left : after ≡ (gate_init_checked g marks).marks
+      left = ap (λ (s : CheckSeen). s.marks) seen
+
       is_done : eqb (gate_init_checked g marks).given.number 0 ≡ true
-      is_done = test_done told_so test h
+      is_done = ap (λ (t : Given). eqb t.number 0) (sym told_so)
 
       pub gate_init_ready : GateReady (part_of g)
       gate_init_ready =
@@ -140,6 +141,6 @@ module _ (g : Lent) (marks : List ℕ) where
             room = λ e. omega (arith, (room_right g a.has_room e).latches);
           }
 
-      pub gate_init_done : (p : Part) → p ≡ gate_init (part_of g) → rebuilt_seen (rebuilt p.counts) (with_part g p) after ≡ gate_init_call g marks
+      pub gate_init_done : (p : Part) → p ≡ gate_init (part_of g) → rebuilt_seen (Ok p.counts) (with_part g p) after ≡ gate_init_call g marks
       unfolding gate_init_call
       gate_init_done p e = rw (is_done, told_so, left, e)

@@ -8,8 +8,7 @@ use Rattle.graph.specs.Graph.{Lent, lent}
 use Rattle.graph.specs.Check.{CheckSeen}
 use Rattle.gates.specs.Gates.{State}
 use Rattle.gates.specs.Lists.{list_of}
-use Rattle.renumber.specs.declared.Rebuilt.{Rebuilt}
-use Rattle.renumber.specs.Seen.{ListedSeen, listed_seen, SameListed, listed_determined}
+use Rattle.renumber.specs.Seen.{Rebuilt, ListedSeen, listed_seen, SameListed, listed_determined}
 use Rattle.output.specs.Copying.{copied}
 use Rattle.property.specs.Checking.{change_checked}
 

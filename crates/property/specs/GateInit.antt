@@ -13,8 +13,7 @@ use Rattle.graph.specs.Graph.{Lent, lent}
 use Rattle.graph.specs.Check.{CheckSeen}
 use Rattle.gates.specs.Gates.{State, leaf_added}
 use Rattle.gates.specs.Lists.{list_of, eq_of}
-use Rattle.renumber.specs.declared.Rebuilt.{Rebuilt}
-use Rattle.renumber.specs.Seen.{RebuiltSeen, rebuilt_seen, SameRebuilt, rebuilt_determined}
+use Rattle.renumber.specs.Seen.{Rebuilt, RebuiltSeen, rebuilt_seen, SameRebuilt, rebuilt_determined}
 use Rattle.property.specs.Checking.{change_checked}
 
 -- "a latch with init of id other than 0": the none word is no edge

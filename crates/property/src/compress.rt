@@ -1,6 +1,8 @@
 // All bads become one.
+// Memory is lent with room beyond the used entries, and a promise speaks of all that is lent: so how many are used stands beside a table.
 ghost use Rattle.std.specs.Prelude.{◌≡◌, true, false, [], take};
-ghost use Rattle.graph.specs.Graph.{lent};
+ghost use Rattle.edge.specs.Answers.{value_or};
+ghost use Rattle.graph.specs.Graph.{lent, lent_of};
 ghost use Rattle.graph.specs.Check.{check_seen};
 ghost use Rattle.gates.specs.Gates.{state_of};
 ghost use Rattle.gates.specs.Lists.{list_of};
@@ -8,31 +10,11 @@ ghost use Rattle.renumber.specs.Seen.{listed_seen};
 ghost use Rattle.property.specs.Compress.{one_bad, compress_checked, compress_call};
 ghost use Rattle.property.specs.Steps.{OrReady, CompressReady, Compressing};
 
-use edge::Answer;
-use gates::Grown;
+use edge::Refusal;
 use gates::lists::add_list;
-use graph::Counts;
+use graph::{Counts, Graph};
 use output::copy_words;
-use renumber::Rebuilt;
 use rows::sizes::MAX_ENTRIES;
-
-// The or of the first n bads.
-fn or_bads(rows: &mut [u32], used: usize, bads: &[u32], n: usize) -> Grown
-    requires { OrReady used bads.now n }
-    ensures { state_of rows.new result ≡ list_of false true rows.old used (take n bads.now) }
-{
-    add_list(rows, used, false, true, &bads[..n])
-}
-
-// How many rows are used then: the same step on no rows.
-fn rows_of_or(used: usize, bads: &[u32], n: usize) -> usize
-    requires { OrReady used bads.now n }
-    ensures { result ≡ (list_of false true [] used (take n bads.now)).used }
-{
-    let mut none: [u32; 0] = [0; 0];
-    let dry = or_bads(&mut none, used, bads, n);
-    dry.used
-}
 
 // So many rows, and one bad.
 fn one_bad(counts: Counts, used: usize) -> Counts
@@ -40,62 +22,27 @@ fn one_bad(counts: Counts, used: usize) -> Counts
 {
     Counts {
         rows: used,
-        inputs: counts.inputs,
-        latches: counts.latches,
-        constraints: counts.constraints,
         bads: 1,
-        outputs: counts.outputs,
-        sets: counts.sets,
-        edges: counts.edges,
-        fairness: counts.fairness,
+        ..counts
     }
 }
 
 // Answers 1, 2, 3 and 5.
-fn checked(
-    rows: &[u32],
-    inputs: &[u32],
-    latches: &[u32],
-    constraints: &[u32],
-    bads: &[u32],
-    outputs: &[u32],
-    ends: &[u32],
-    edges: &[u32],
-    fairness: &[u32],
-    counts: Counts,
-    old: &[u32],
-    marks: &mut [u32],
-) -> Answer
-    ensures { check_seen result marks.new
-        ≡ compress_checked
-        (lent rows.now inputs.now latches.now constraints.now bads.now outputs.now ends.now edges.now fairness.now counts)
-        old.now marks.old }
+fn checked(graph: &Graph, old: &[u32], marks: &mut [u32]) -> Result<(), Refusal>
+    ensures { check_seen result marks.new ≡ compress_checked (lent_of graph.now) old.now marks.old }
 {
     if MAX_ENTRIES < old.len() {
-        return Answer::BadSizes;
+        return Err(Refusal::BadSizes);
     }
-    let answer = graph::check(
-        rows,
-        inputs,
-        latches,
-        constraints,
-        bads,
-        outputs,
-        ends,
-        edges,
-        fairness,
-        counts,
-        marks,
-    );
-    if !edge::is_done(answer) {
-        return answer;
+    graph.check(marks)?;
+    let n = graph.counts.bads;
+    // the need is counted by the same step on no rows
+    let dry = add_list(&mut [], graph.counts.rows, false, true, &graph.bads[..n]);
+    if (dry.used <= graph.rows.len() / 2) & (0 < graph.bads.len()) & (n <= old.len()) {
+        Ok(())
+    } else {
+        Err(Refusal::NoRoom)
     }
-    let n = counts.bads;
-    let need = rows_of_or(counts.rows, bads, n);
-    if (need <= rows.len() / 2) & (0 < bads.len()) & (n <= old.len()) {
-        return answer;
-    }
-    Answer::NoRoom
 }
 
 // Hands back the first n bads, and leaves their or in the first place.
@@ -104,12 +51,12 @@ fn write(rows: &mut [u32], used: usize, bads: &mut [u32], n: usize, old: &mut [u
     ensures { Compressing rows.old used bads.old n old.old rows.new bads.new old.new result }
 {
     copy_words(old, bads, n);
-    let grown = or_bads(rows, used, bads, n);
+    let grown = add_list(rows, used, false, true, &bads[..n]);
     bads[0] = grown.edge;
     grown.used
 }
 
-// Leaves one bad, the or of all, and hands back the old list.
+// Leaves one bad, the or of all, and hands back the old list. What is changed is lent apart from what is only read: a graph or tables as one value would ask for more.
 pub fn compress_property(
     rows: &mut [u32],
     inputs: &[u32],
@@ -123,15 +70,15 @@ pub fn compress_property(
     counts: Counts,
     old: &mut [u32],
     marks: &mut [u32],
-) -> Rebuilt
+) -> Result<Counts, Refusal>
     ensures { listed_seen result
-        (lent rows.new inputs.now latches.now constraints.now bads.new outputs.now ends.now edges.now fairness.now result.counts)
+        (lent rows.new inputs.now latches.now constraints.now bads.new outputs.now ends.now edges.now fairness.now (value_or counts result))
         old.new marks.new
         ≡ compress_call
         (lent rows.old inputs.now latches.now constraints.now bads.old outputs.now ends.now edges.now fairness.now counts)
         old.old marks.old }
 {
-    let answer = checked(
+    let graph = Graph {
         rows,
         inputs,
         latches,
@@ -142,15 +89,8 @@ pub fn compress_property(
         edges,
         fairness,
         counts,
-        old,
-        marks,
-    );
-    if !edge::is_done(answer) {
-        return Rebuilt { answer, counts };
-    }
+    };
+    checked(&graph, old, marks)?;
     let used = write(rows, counts.rows, bads, counts.bads, old);
-    Rebuilt {
-        answer,
-        counts: one_bad(counts, used),
-    }
+    Ok(one_bad(counts, used))
 }

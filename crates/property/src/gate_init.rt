@@ -1,7 +1,9 @@
 // Inits become constraints.
+// Memory is lent with room beyond the used entries, and a promise speaks of all that is lent: so how many are used stands beside a table.
 ghost use Rattle.std.specs.Prelude.{◌≡◌, true, false, [], ◌∷◌, ◌+◌, ◌*◌, ◌≤◌, length, set};
+ghost use Rattle.edge.specs.Answers.{value_or};
 ghost use Rattle.graph.specs.Latches.{latch_words};
-ghost use Rattle.graph.specs.Graph.{lent};
+ghost use Rattle.graph.specs.Graph.{lent, lent_of};
 ghost use Rattle.graph.specs.Check.{check_seen};
 ghost use Rattle.gates.specs.Steps.{step_limit};
 ghost use Rattle.gates.specs.Gates.{state_of};
@@ -10,11 +12,10 @@ ghost use Rattle.renumber.specs.Seen.{rebuilt_seen};
 ghost use Rattle.property.specs.GateInit.{is_gated, constraint_of, gating, gate_step, gate_steps, initless, inits_taken, part, gated_counts, gate_init, gate_init_checked, gate_init_call};
 ghost use Rattle.property.specs.Steps.{any_gated, gating_of, ConstraintReady, StepReady, StepsReady, GateReady};
 
-use edge::Answer;
+use edge::Refusal;
 use gates::{Grown, add_and, add_row};
-use graph::Counts;
 use graph::latch::{LATCH_WORDS, Latch, latch_at, latch_of, without_init, write_latch};
-use renumber::Rebuilt;
+use graph::{Counts, Graph};
 use rows::kinds::NONE;
 
 // How many rows are used and how many constraints there are.
@@ -31,7 +32,7 @@ fn is_gated(l: Latch) -> bool
     (l.init != NONE) & (l.init / 2 != 0)
 }
 
-// Is there such a latch among the first n?
+// Is there such a latch among the first n? A `for`: `any` goes up from 0, and the definition goes down from n.
 fn any_gated(latches: &[u32], n: usize) -> bool
     requires { latch_words * n ≤ length latches.now }
     ensures { result ≡ any_gated latches.now n }
@@ -68,7 +69,7 @@ fn add_constraint(rows: &mut [u32], used: usize, new: u32, l: Latch) -> Grown
     add_or(rows, same.used, edge::not(2 * new), same.edge)
 }
 
-// Writes entry k, if it is lent.
+// Writes entry k, if it is lent. The `put` of `sulandiro_words` is of other words, for C.
 fn put(list: &mut [u32], k: usize, e: u32)
     ensures { list.new ≡ set list.old k e }
 {
@@ -129,17 +130,7 @@ fn need(used: usize, latches: &[u32], n: usize, count: usize) -> Gated
     requires { StepsReady (used + 1) used latches.now n count }
     ensures { (result.used ≡ (gate_steps used latches.now (gating [] (used + 1) [] count) n).used) × (result.count ≡ (gate_steps used latches.now (gating [] (used + 1) [] count) n).count) }
 {
-    let mut no_rows: [u32; 0] = [0; 0];
-    let mut no_constraints: [u32; 0] = [0; 0];
-    gate_steps(
-        &mut no_rows,
-        used + 1,
-        used as u32,
-        latches,
-        n,
-        &mut no_constraints,
-        count,
-    )
+    gate_steps(&mut [], used + 1, used as u32, latches, n, &mut [], count)
 }
 
 // The latch without such an init.
@@ -170,62 +161,29 @@ fn counted(counts: Counts, used: usize, count: usize) -> Counts
 {
     Counts {
         rows: used,
-        inputs: counts.inputs,
         latches: counts.latches + 1,
         constraints: count,
-        bads: counts.bads,
-        outputs: counts.outputs,
-        sets: counts.sets,
-        edges: counts.edges,
-        fairness: counts.fairness,
+        ..counts
     }
 }
 
 // Answers 1, 2, 3 and 5.
-fn checked(
-    rows: &[u32],
-    inputs: &[u32],
-    latches: &[u32],
-    constraints: &[u32],
-    bads: &[u32],
-    outputs: &[u32],
-    ends: &[u32],
-    edges: &[u32],
-    fairness: &[u32],
-    counts: Counts,
-    marks: &mut [u32],
-) -> Answer
-    ensures { check_seen result marks.new
-        ≡ gate_init_checked
-        (lent rows.now inputs.now latches.now constraints.now bads.now outputs.now ends.now edges.now fairness.now counts)
-        marks.old }
+fn checked(graph: &Graph, marks: &mut [u32]) -> Result<(), Refusal>
+    ensures { check_seen result marks.new ≡ gate_init_checked (lent_of graph.now) marks.old }
 {
-    let answer = graph::check(
-        rows,
-        inputs,
-        latches,
-        constraints,
-        bads,
-        outputs,
-        ends,
-        edges,
-        fairness,
-        counts,
-        marks,
-    );
-    if !edge::is_done(answer) {
-        return answer;
-    }
+    graph.check(marks)?;
+    let counts = graph.counts;
     let n = counts.latches;
-    let need = need(counts.rows, latches, n, counts.constraints);
+    let need = need(counts.rows, graph.latches, n, counts.constraints);
     if (need.count == counts.constraints)
-        | ((need.used <= rows.len() / 2)
-            & (n < latches.len() / LATCH_WORDS)
-            & (need.count <= constraints.len()))
+        | ((need.used <= graph.rows.len() / 2)
+            & (n < graph.latches.len() / LATCH_WORDS)
+            & (need.count <= graph.constraints.len()))
     {
-        return answer;
+        Ok(())
+    } else {
+        Err(Refusal::NoRoom)
     }
-    Answer::NoRoom
 }
 
 // The new latch and the constraints, and the inits are taken out.
@@ -256,6 +214,7 @@ fn write(rows: &mut [u32], latches: &mut [u32], constraints: &mut [u32], counts:
 }
 
 // Each latch whose init is no constant loses it. A new latch is true at the start only, and a constraint for each such latch says that it equals its init then.
+// What is changed is lent apart from what is only read: a graph or tables as one value would ask for more.
 pub fn gate_init_to_constraint(
     rows: &mut [u32],
     inputs: &[u32],
@@ -268,15 +227,15 @@ pub fn gate_init_to_constraint(
     fairness: &[u32],
     counts: Counts,
     marks: &mut [u32],
-) -> Rebuilt
+) -> Result<Counts, Refusal>
     ensures { rebuilt_seen result
-        (lent rows.new inputs.now latches.new constraints.new bads.now outputs.now ends.now edges.now fairness.now result.counts)
+        (lent rows.new inputs.now latches.new constraints.new bads.now outputs.now ends.now edges.now fairness.now (value_or counts result))
         marks.new
         ≡ gate_init_call
         (lent rows.old inputs.now latches.old constraints.old bads.now outputs.now ends.now edges.now fairness.now counts)
         marks.old }
 {
-    let answer = checked(
+    let graph = Graph {
         rows,
         inputs,
         latches,
@@ -287,13 +246,7 @@ pub fn gate_init_to_constraint(
         edges,
         fairness,
         counts,
-        marks,
-    );
-    if !edge::is_done(answer) {
-        return Rebuilt { answer, counts };
-    }
-    Rebuilt {
-        answer,
-        counts: write(rows, latches, constraints, counts),
-    }
+    };
+    checked(&graph, marks)?;
+    Ok(write(rows, latches, constraints, counts))
 }

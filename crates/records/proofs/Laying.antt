@@ -1,18 +1,16 @@
 -- Records written one by one as words are the words that the records hold; and those words give the records back.
 -- Assumes nothing.
-use Prim.Native.Nat.{ℕ, zero, suc, ◌+◌, ◌*◌, ◌≤◌}
+use Prim.Native.Nat.{ℕ, zero, suc, ◌+◌, ◌*◌, ◌≤◌, ◌<◌}
 use native.Mathlib.Omega.{arith}
 use native.Mathlib.Nat.{le_refl}
 use mathlib.Core.Path.{◌≡◌, refl, sym, ap, ◌∙◌}
-use mathlib.Core.Bool.{Bool, true, false, cond}
 use mathlib.Core.List.{List, [], ◌∷◌, ◌++◌}
-use lib.ListN.{length, get_or, set, drop, length-set}
+use lib.ListN.{length, get_or, set, drop}
 use lib.Seq.{sets, sets-eq, drop-cons, drop-length}
-use lib.Dec.{leb}
-use borrow.Author.Tests.{leb-true}
+use borrow.Author.Tests.{le-leb, lt-leb}
 use Rattle.graph.specs.declared.latch.Latch.{Latch}
 use Rattle.graph.specs.Latches.{latch_words, latches_lent, latch_at, latch_set}
-use Rattle.records.specs.Table.{words_of, copied, laid_out, no_latch}
+use Rattle.records.specs.Table.{words_of, laid_out, no_latch}
 
 -- ---- the words that records hold
 pub thrice : (i : ℕ) → latch_words * suc i ≡ suc (suc (suc (latch_words * i)))
@@ -49,11 +47,6 @@ module _ (t : List Latch) (words : List ℕ) where
   sofar zero = words
   sofar (suc i) = latch_set (sofar i) i (get_or t i no_latch)
 
-  pub sofar_length : (i : ℕ) → length (sofar i) ≡ length words
-  unfolding latch_set
-  sofar_length zero = refl
-  sofar_length (suc i) = rw (length-set, length-set, length-set) (sofar_length i)
-
 -- records written from latch i on
 abbrev written : List Latch → List ℕ → ℕ → List ℕ
 written [] words i = words
@@ -89,20 +82,12 @@ module _ (t : List Latch) (words : List ℕ) (room : length t ≤ latches_lent w
       ∙ sets-eq (words_of t) words 0 (omega (arith, words_length t, fits))
       ∙ ap (λ (k : ℕ). words_of t ++ drop k words) n
 
--- `copied` of them, whatever the room
-pub sofar_copied : (t : List Latch) (words : List ℕ) → sofar t words (copied (length t) (latches_lent words)) ≡ laid_out t words
-unfolding copied laid_out
-sofar_copied t words = by_test (leb (length t) (latches_lent words)) refl
-  where
-    by_test : (b : Bool) → leb (length t) (latches_lent words) ≡ b → sofar t words (cond b (length t) 0) ≡ cond b (words_of t ++ drop (latch_words * length t) words) words
-    by_test true e = sofar_all t words (leb-true (length t) (latches_lent words) e)
-    by_test false e = refl
+-- with the room for all of them, and without
+module _ (t : List Latch) (words : List ℕ) where
+  pub all_laid : length t ≤ latches_lent words → sofar t words (length t) ≡ laid_out t words
+  unfolding laid_out
+  all_laid h = rw (le-leb (length t) (latches_lent words) h) (sofar_all t words h)
 
--- as many as are copied are records, and their words are lent
-pub copied_within : (n lent : ℕ) → copied n lent ≤ n × copied n lent ≤ lent
-unfolding copied
-copied_within n lent = by_test (leb n lent) refl
-  where
-    by_test : (b : Bool) → leb n lent ≡ b → (cond b n 0 ≤ n) × (cond b n 0 ≤ lent)
-    by_test true e = (le_refl n, leb-true n lent e)
-    by_test false e = (omega arith, omega arith)
+  pub none_laid : latches_lent words < length t → words ≡ laid_out t words
+  unfolding laid_out
+  none_laid h = rw (lt-leb (length t) (latches_lent words) h)

@@ -1,7 +1,9 @@
 pub mod Calling
+pub mod Entries
 pub mod Laying
 pub mod Local
 pub mod Meaning
 pub mod Nexting
 pub mod Pairing
+pub mod Refusing
 pub mod Working

@@ -21,7 +21,7 @@ lends : (t : List Latch) → latches_lent (words_of t) ≡ length t
 lends t = omega (arith, words_length t)
 
 module _ (f : Latch → Latch → Latch) (t : List Latch) (words : List ℕ) where
-  back_kept : length (back f t words) ≡ length t
+  pub back_kept : length (back f t words) ≡ length t
   unfolding back
   back_kept = by_test (room_for t words)
     where

@@ -4,14 +4,13 @@ use Prim.Native.Nat.{ℕ, zero, suc, ◌+◌, ◌≤◌, ◌<◌}
 use native.Mathlib.Omega.{arith}
 use native.Mathlib.Nat.{le_refl, not-suc-le-zero, le_of_suc-le-suc}
 use mathlib.Core.Path.{◌≡◌, refl, sym, ap, ◌∙◌}
-use mathlib.Core.Bool.{Bool, true, false, cond}
 use mathlib.Core.List.{List, [], ◌∷◌, ◌++◌, append-nil}
-use lib.ListN.{length, get_or, set, take, drop, length-set}
+use lib.ListN.{length, get_or, set, take, drop}
 use lib.Seq.{drop-cons, drop-length, take-suc, take_all, length-take-le, append_snoc, set_at, get_or_at}
-use lib.Dec.{leb}
+use borrow.Author.Tests.{le-leb, lt-leb}
 use Rattle.graph.specs.declared.latch.Latch.{Latch}
 use Rattle.graph.specs.Latches.{latches_lent, latch_at}
-use Rattle.records.specs.Table.{copied, back_from, back, no_latch}
+use Rattle.records.specs.Table.{back_from, back, no_latch}
 
 module _ (f : Latch → Latch → Latch) (words : List ℕ) where
   -- ---- what is defined, record by record
@@ -32,10 +31,6 @@ module _ (f : Latch → Latch → Latch) (words : List ℕ) where
     abbrev pub sofar : ℕ → List Latch
     sofar zero = t
     sofar (suc i) = set (sofar i) i (f (get_or (sofar i) i no_latch) (latch_at words i))
-
-    pub sofar_length : (i : ℕ) → length (sofar i) ≡ length t
-    sofar_length zero = refl
-    sofar_length (suc i) = length-set (sofar i) i (f (get_or (sofar i) i no_latch) (latch_at words i)) ∙ sofar_length i
 
     whole : List Latch
     whole = back_from f 0 t words
@@ -64,11 +59,11 @@ module _ (f : Latch → Latch → Latch) (words : List ℕ) where
         ∙ append-nil (take (length t) whole)
         ∙ take_all (length t) whole (rw (back_length 0 t) (le_refl (length t)))
 
-    -- `copied` of them, whatever the room
-    pub sofar_copied : sofar (copied (length t) (latches_lent words)) ≡ back f t words
-    unfolding copied back
-    sofar_copied = by_test (leb (length t) (latches_lent words))
-      where
-        by_test : (b : Bool) → sofar (cond b (length t) 0) ≡ cond b (back_from f 0 t words) t
-        by_test true = sofar_all
-        by_test false = refl
+    -- with a latch for every record, and without
+    pub all_back_lem : length t ≤ latches_lent words → sofar (length t) ≡ back f t words
+    unfolding back
+    all_back_lem h = rw (le-leb (length t) (latches_lent words) h) sofar_all
+
+    pub none_back : latches_lent words < length t → t ≡ back f t words
+    unfolding back
+    none_back h = rw (lt-leb (length t) (latches_lent words) h)

@@ -1,12 +1,10 @@
 -- A flat call on work words is the call on the words that the records hold.
 -- Assumes nothing.
 use Prim.Native.Nat.{ℕ, ◌*◌, ◌≤◌, ◌<◌}
-use native.Mathlib.Omega.{arith}
-use mathlib.Core.Path.{◌≡◌, refl, sym, ap, ◌∙◌}
+use mathlib.Core.Path.{◌≡◌, refl, ap, ◌∙◌}
 use mathlib.Core.Bool.{Bool, true, false, cond}
 use mathlib.Core.List.{List}
 use lib.ListN.{length, take}
-use lib.Seq.{length-take-le}
 use borrow.Author.Tests.{le-leb, lt-leb}
 use Rattle.graph.specs.declared.latch.Latch.{Latch}
 use Rattle.graph.specs.Latches.{latch_words, latches_lent}
@@ -39,7 +37,3 @@ module _ {S : Type 0} (call : List ℕ → S) (refused : S) where
     pub on_records_lem : on_words (length t) (laid_out t words) call refused ≡ on_records t words call refused
     unfolding on_words on_records
     on_records_lem = λ j. worked ((ap Seen (room_like t (laid_out t words) words (laid_length t words)) ∙ seen (room_for t words) refl) j) (laid_wiped t words j)
-
--- the front of the work words that the call is lent
-pub front_length : (n : ℕ) (words : List ℕ) → n ≤ latches_lent words → latch_words * n ≡ length (take (latch_words * n) words)
-front_length n words h = sym (length-take-le (latch_words * n) words (omega (arith, h)))

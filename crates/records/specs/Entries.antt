@@ -1,12 +1,11 @@
 -- One record of the latch table: "Latch structs read and next written in the slice".
 -- Assumes nothing.
-use Rattle.std.specs.Prelude.{ℕ, ◌≡◌, Bool, cond, List, length, get_or, set, ltb}
+use Rattle.std.specs.Prelude.{ℕ, ◌≡◌, Bool, cond, List, length, get_or, set, ltb, Result}
 use Rattle.std.proofs.Common.{ap}
-use Rattle.edge.specs.declared.answer.Answer.{Answer}
 use Rattle.edge.specs.declared.answer.Given.{Given}
-use Rattle.edge.specs.Answers.{done, bad_argument, told, told_injective, determined}
+use Rattle.edge.specs.declared.answer.Refusal.{Refusal}
+use Rattle.edge.specs.Answers.{done, bad_argument, told, value_or, answer_known, told_injective, determined}
 use Rattle.graph.specs.declared.latch.Latch.{Latch}
-use Rattle.records.specs.declared.table.Found.{Found}
 use Rattle.records.specs.Table.{no_latch, with_next}
 
 -- the answer, as it is told, and the latch that was read; the answer and the table that is left
@@ -18,10 +17,10 @@ pub record TableSeen : Type 0 where
   pub given : Given
   pub table : List Latch
 
-abbrev pub found_seen : Found → LatchSeen
-found_seen r = record { given = told r.answer; latch = r.latch }
+abbrev pub found_seen : Result Latch Refusal → LatchSeen
+found_seen r = record { given = told r; latch = value_or no_latch r }
 
-abbrev pub table_seen : Answer → List Latch → TableSeen
+abbrev pub table_seen : Result Unit Refusal → List Latch → TableSeen
 table_seen r t = record { given = told r; table = t }
 
 -- record i is there
@@ -36,12 +35,12 @@ unfoldable pub next_call : List Latch → ℕ → ℕ → TableSeen
 next_call t i next = cond (there t i) (record { given = done; table = set t i (with_next (get_or t i no_latch) next) }) (record { given = bad_argument; table = t })
 
 -- any two results that a promise allows are equal
-pub latch_determined : (t : List Latch) (i : ℕ) (r s : Found) → found_seen r ≡ latch_call t i → found_seen s ≡ latch_call t i → (r.answer ≡ s.answer) × (r.latch ≡ s.latch)
+pub latch_determined : (t : List Latch) (i : ℕ) (r s : Result Latch Refusal) → found_seen r ≡ latch_call t i → found_seen s ≡ latch_call t i → r ≡ s
 latch_determined t i r s p q =
     let e = determined (latch_call t) i (found_seen r) (found_seen s) p q in
-    (told_injective r.answer s.answer (ap (λ (z : LatchSeen). z.given) e), ap (λ (z : LatchSeen). z.latch) e)
+    answer_known no_latch r s (ap (λ (z : LatchSeen). z.given) e) (ap (λ (z : LatchSeen). z.latch) e)
 
-pub set_next_determined : (t : List Latch) (i next : ℕ) (r s : Answer) (x y : List Latch) → table_seen r x ≡ next_call t i next → table_seen s y ≡ next_call t i next → (r ≡ s) × (x ≡ y)
+pub set_next_determined : (t : List Latch) (i next : ℕ) (r s : Result Unit Refusal) (x y : List Latch) → table_seen r x ≡ next_call t i next → table_seen s y ≡ next_call t i next → (r ≡ s) × (x ≡ y)
 set_next_determined t i next r s x y p q =
     let e = determined (next_call t i) next (table_seen r x) (table_seen s y) p q in
     (told_injective r s (ap (λ (z : TableSeen). z.given) e), ap (λ (z : TableSeen). z.table) e)

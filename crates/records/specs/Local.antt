@@ -1,11 +1,11 @@
 -- A local table of records, for callers that hold flat words: the latches are read into it, and a call is made on it.
 -- Assumes nothing.
-use Rattle.std.specs.Prelude.{ℕ, ◌*◌, ◌≡◌, Bool, List, length, replicate, eqb, leb}
+use Rattle.std.specs.Prelude.{ℕ, ◌*◌, ◌≡◌, Bool, List, length, replicate, eqb, leb, Result}
 use Rattle.std.proofs.Common.{ap}
-use Rattle.edge.specs.Answers.{determined, told_injective}
+use Rattle.edge.specs.declared.answer.Refusal.{Refusal}
+use Rattle.edge.specs.Answers.{determined, answer_known}
 use Rattle.graph.specs.declared.latch.Latch.{Latch}
 use Rattle.graph.specs.Latches.{latch_words, latches_lent}
-use Rattle.records.specs.declared.table.Found.{Found}
 use Rattle.records.specs.Table.{no_latch, laid_out, records_back}
 use Rattle.records.specs.Entries.{LatchSeen, found_seen, latch_call, next_call}
 
@@ -33,18 +33,14 @@ pub record EntrySeen : Type 0 where
   pub found : LatchSeen
   pub latches : List ℕ
 
-abbrev pub entry_seen : Found → List ℕ → EntrySeen
+abbrev pub entry_seen : Result Latch Refusal → List ℕ → EntrySeen
 entry_seen r latches = record { found = found_seen r; latches = latches }
 
 unfoldable pub next_through : List ℕ → ℕ → ℕ → EntrySeen
 next_through latches i next = let t = (next_call (held latches) i next).table in record { found = latch_call t i; latches = laid_out t latches }
 
 -- any two results that a promise of this kind allows are equal
-pub entry_determined : (call : List ℕ → EntrySeen) (latches : List ℕ) (r s : Found) (x y : List ℕ) → entry_seen r x ≡ call latches → entry_seen s y ≡ call latches
-    → (r.answer ≡ s.answer) × (r.latch ≡ s.latch) × (x ≡ y)
+pub entry_determined : (call : List ℕ → EntrySeen) (latches : List ℕ) (r s : Result Latch Refusal) (x y : List ℕ) → entry_seen r x ≡ call latches → entry_seen s y ≡ call latches → (r ≡ s) × (x ≡ y)
 entry_determined call latches r s x y p q =
-    let e = determined call latches (entry_seen r x) (entry_seen s y) p q in (
-      told_injective r.answer s.answer (ap (λ (z : EntrySeen). z.found.given) e),
-      ap (λ (z : EntrySeen). z.found.latch) e,
-      ap (λ (z : EntrySeen). z.latches) e,
-    )
+    let e = determined call latches (entry_seen r x) (entry_seen s y) p q in
+    (answer_known no_latch r s (ap (λ (z : EntrySeen). z.found.given) e) (ap (λ (z : EntrySeen). z.found.latch) e), ap (λ (z : EntrySeen). z.latches) e)

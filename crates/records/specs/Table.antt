@@ -27,10 +27,6 @@ records_in_words (l ∷ t) = ap (λ (z : List Latch). l ∷ z) (records_in_words
 pub same_table : (t u : List Latch) → words_of t ≡ words_of u → t ≡ u
 same_table t u e = sym (records_in_words t) ∙ (ap records_in e ∙ records_in_words u)
 
--- all of n records, where so many latches are lent in words, else none
-unfoldable pub copied : ℕ → ℕ → ℕ
-copied n lent = cond (leb n lent) n 0
-
 -- the words have room for every record
 abbrev pub room_for : List Latch → List ℕ → Bool
 room_for t words = leb (length t) (latches_lent words)

@@ -2,41 +2,29 @@
 ghost use Rattle.std.specs.Prelude.{◌≡◌};
 ghost use Rattle.records.specs.Entries.{found_seen, latch_call, table_seen, next_call};
 
-use edge::Answer;
+use edge::Refusal;
 use graph::latch::Latch;
 
-// A latch that was read; on a refusal its words are 0.
-#[derive(Clone, Copy)]
-pub struct Found {
-    pub answer: Answer,
-    pub latch: Latch,
-}
+// What stands in a table before it is read.
+pub const NO_LATCH: Latch = Latch {
+    input: 0,
+    next: 0,
+    init: 0,
+};
 
-pub fn latch_at(table: &[Latch], i: usize) -> Found
+pub fn latch_at(table: &[Latch], i: usize) -> Result<Latch, Refusal>
     ensures { found_seen result ≡ latch_call table.now i }
 {
-    if i < table.len() {
-        return Found {
-            answer: Answer::Done,
-            latch: table[i],
-        };
-    }
-    Found {
-        answer: Answer::BadArgument,
-        latch: Latch {
-            input: 0,
-            next: 0,
-            init: 0,
-        },
-    }
+    table.get(i).copied().ok_or(Refusal::BadArgument)
 }
 
-pub fn set_next(table: &mut [Latch], i: usize, next: u32) -> Answer
+pub fn set_next(table: &mut [Latch], i: usize, next: u32) -> Result<(), Refusal>
     ensures { table_seen result table.new ≡ next_call table.old i next }
 {
-    if i < table.len() {
-        table[i].next = next;
-        return Answer::Done;
+    // By an index: after `get_mut` the proof knows no more of the table than its length.
+    if table.len() <= i {
+        return Err(Refusal::BadArgument);
     }
-    Answer::BadArgument
+    table[i].next = next;
+    Ok(())
 }

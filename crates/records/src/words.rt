@@ -1,43 +1,30 @@
-// The latch table as records and as the flat words that every call on a whole graph takes.
-ghost use Rattle.std.specs.Prelude.{◌≡◌, ◌/◌};
-ghost use Rattle.graph.specs.Latches.{latch_words};
-ghost use Rattle.records.specs.Table.{copied, laid_out, nexts_back, records_back, wiped};
+// The latch table as records and as the flat words that every call on a whole graph takes. Where the words have no room for every record, none is copied.
+// Memory is lent with room beyond the used entries, and a promise speaks of all that is lent: so how many are used stands beside a table.
+ghost use Rattle.std.specs.Prelude.{◌≡◌};
+ghost use Rattle.records.specs.Table.{laid_out, nexts_back, records_back, wiped};
 
 use graph::latch::{LATCH_WORDS, Latch, latch_at, write_latch};
 use graph::marks::clear;
-
-// How many of n records are copied: all where so many words have room for them, else none.
-fn copied(n: usize, words: usize) -> usize
-    ensures { result ≡ copied n (words / latch_words) }
-{
-    if n <= words / LATCH_WORDS {
-        return n;
-    }
-    0
-}
 
 // The records' words, in front of the others.
 pub fn to_words(table: &[Latch], words: &mut [u32])
     ensures { words.new ≡ laid_out table.now words.old }
 {
-    let m = copied(table.len(), words.len());
-    let mut i: usize = 0;
-    while i < m {
-        write_latch(words, i, table[i]);
-        i += 1;
+    if table.len() <= words.len() / LATCH_WORDS {
+        for (i, latch) in table.iter().enumerate() {
+            write_latch(words, i, *latch);
+        }
     }
 }
 
-// The next of each latch, as the words have it.
+// The next of each latch, as the words have it. A loop of its own is plainer than one with a closure that says what is taken of a latch.
 pub fn nexts_back(table: &mut [Latch], words: &[u32])
     ensures { table.new ≡ nexts_back table.old words.now }
 {
-    let m = copied(table.len(), words.len());
-    let mut i: usize = 0;
-    while i < m {
-        let l = latch_at(words, i);
-        table[i].next = l.next;
-        i += 1;
+    if table.len() <= words.len() / LATCH_WORDS {
+        for (i, latch) in table.iter_mut().enumerate() {
+            latch.next = latch_at(words, i).next;
+        }
     }
 }
 
@@ -45,12 +32,10 @@ pub fn nexts_back(table: &mut [Latch], words: &[u32])
 pub fn records_back(table: &mut [Latch], words: &[u32])
     ensures { table.new ≡ records_back table.old words.now }
 {
-    let m = copied(table.len(), words.len());
-    let mut i: usize = 0;
-    while i < m {
-        let l = latch_at(words, i);
-        table[i] = l;
-        i += 1;
+    if table.len() <= words.len() / LATCH_WORDS {
+        for (i, latch) in table.iter_mut().enumerate() {
+            *latch = latch_at(words, i);
+        }
     }
 }
 

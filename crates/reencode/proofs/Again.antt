@@ -56,7 +56,7 @@ module _ (g out : Lent) (marks : ℕ) (s : Sized g marks) (w : WellFormed g) (no
   new = reencoded g out
 
   abbrev rows : List ℕ
-  rows = rows_of g.rows g.inputs g.latches g.counts out.rows
+  rows = rows_of g out.rows
 
   total : used ≡ first + gates_below g.rows used
   total = result.total g out marks s w no room limited

@@ -3,16 +3,17 @@
 use Prim.Native.Nat.{ℕ, ◌+◌, ◌<◌}
 use native.Mathlib.Omega.{arith}
 use mathlib.Core.Path.{◌≡◌, refl, sym, ap, ◌∙◌}
-use mathlib.Core.Bool.{Bool, true, false, cond, not}
+use mathlib.Core.Bool.{Bool, true, false, cond}
 use mathlib.Core.List.{List}
 use lib.ListN.{length, get_or}
 use lib.Dec.{eqb}
-use borrow.Author.Tests.{eq-eqb, ne_eqb, eqb-true, eqb-false, not-true, not-false}
-use Rattle.edge.specs.declared.answer.Answer.{Answer}
-use Rattle.edge.specs.declared.answer.Answer.TheVariants.{BadSizes, BadArgument, NoRoom}
+use borrow.Author.Tests.{eq-eqb, ne_eqb, eqb-true, eqb-false}
+use Rattle.std.specs.Prelude.{Result, Ok, Err}
+use Rattle.edge.specs.declared.answer.Refusal.{Refusal}
+use Rattle.edge.specs.declared.answer.Refusal.TheVariants.{BadSizes, BadArgument, NoRoom}
 use Rattle.edge.specs.declared.answer.Given.{Given}
-use Rattle.edge.specs.Answers.{done, no_room, told}
-use Rattle.edge.proofs.Answers.{stops_here, goes_past, none_of_two}
+use Rattle.edge.specs.Answers.{done, bad_argument, no_room, refused, told, or_else}
+use Rattle.edge.proofs.Answers.{goes_past, none_of_two, not_done, was_done, was_refused}
 use Rattle.rows.specs.Rows.{leaf_at}
 use Rattle.graph.specs.declared.Counts.{Counts}
 use Rattle.graph.specs.Graph.{Lent, Sized}
@@ -20,10 +21,8 @@ use Rattle.graph.specs.Leaves.{member}
 use Rattle.graph.specs.Check.{cleared, CheckSeen, check_seen, check_call}
 use Rattle.graph.specs.WellFormed.{WellFormed}
 use Rattle.graph.proofs.Marked.{marks_none, cleared_again}
-use Rattle.graph.proofs.WellFormed.{exact}
-use Rattle.root_marks.proofs.Arguments.{args_room, args_bad, args_told}
+use Rattle.root_marks.specs.Arguments.{args_call}
 use Rattle.graph.specs.Count.{count_below}
-use Rattle.renumber.specs.declared.Rebuilt.{Rebuilt}
 use Rattle.output.specs.Room.{room_in, limits_in, limits, fits_in, has_room, Room}
 use Rattle.output.specs.Asking.{asked_in}
 use Rattle.output.proofs.Fitting.{roomy, room_true}
@@ -37,66 +36,77 @@ use Rattle.reencode.proofs.Leaving.{leaves_counted}
 
 -- ---- the answer, and the marks
 module _ (g : Lent) (room : Counts) (marks : List ℕ) where
-  -- a refusal before 5 is the answer
-  stands_so : (a : Answer) {after : List ℕ} → check_seen a after ≡ reencode_asked g room marks → ((told a).number ≡ 0 → ⊥) → check_seen a after ≡ reencode_checked g room marks
-  unfolding reencode_checked
-  stands_so a {after} e n = rw (← e) (ap (λ (t : Given). record { given = t; marks = after }) (sym (stops_here (told a) (cond (fits_in room g.counts) done no_room) n)))
+  abbrev first : CheckSeen
+  first = asked_in true g room marks
 
-  pub limits_passed : {t : Bool} → t ≡ limits_in room → not t ≡ true → check_seen BadSizes marks ≡ reencode_checked g room marks
-  unfolding asked_in
-  limits_passed {t} e h = stands_so BadSizes (args_room (limits_in room) (no_orphan g) g marks (sym e ∙ not-true t h)) (λ z. absurd (omega arith))
+  -- 1 to 3 come before 4
+  asked_first : (good : Bool) (f : Refusal) → first.given ≡ refused f → asked_in good g room marks ≡ first
+  unfolding asked_in args_call or_else
+  asked_first good f e = go (limits_in room) (eqb (check_call g marks).given.number 0) e
+    where
+      go : (r t : Bool) → (cond r (record { given = cond t done (check_call g marks).given; marks = (check_call g marks).marks }) (check_seen (Err BadSizes) marks)).given ≡ refused f
+          → cond r (record { given = cond t (cond good done bad_argument) (check_call g marks).given; marks = (check_call g marks).marks }) (check_seen (Err BadSizes) marks) ≡
+          cond r (record { given = cond t done (check_call g marks).given; marks = (check_call g marks).marks }) (check_seen (Err BadSizes) marks)
+      go true true e = absurd (eqb-false _ _ (not_done f) (ap (λ (t : Given). t.number) (sym e)))
+      go true false e = refl
+      go false t e = refl
 
-  module _ {t : Bool} (q : t ≡ limits_in room) (u : not t ≡ false) (a : Answer) {after : List ℕ} (seen : check_seen a after ≡ check_call g marks) {d : Bool} (test : d ≡ eqb (told a).number 0) where
-    within : limits_in room ≡ true
-    within = sym q ∙ not-false t u
+  -- and where none of them is left
+  asked_then : (good : Bool) → first.given ≡ done → asked_in good g room marks ≡ record { given = cond good done bad_argument; marks = first.marks }
+  unfolding asked_in args_call or_else
+  asked_then good e = go (limits_in room) (eqb (check_call g marks).given.number 0) refl e
+    where
+      go : (r t : Bool) → eqb (check_call g marks).given.number 0 ≡ t
+          → (cond r (record { given = cond t done (check_call g marks).given; marks = (check_call g marks).marks }) (check_seen (Err BadSizes) marks)).given ≡ done
+          → cond r (record { given = cond t (cond good done bad_argument) (check_call g marks).given; marks = (check_call g marks).marks }) (check_seen (Err BadSizes) marks) ≡
+          record {
+            given = cond good done bad_argument;
+            marks = (cond r (record { given = cond t done (check_call g marks).given; marks = (check_call g marks).marks }) (check_seen (Err BadSizes) marks)).marks;
+          }
+      go true true q e = refl
+      go true false q e = absurd (eqb-false _ _ q (ap (λ (t : Given). t.number) e))
+      go false t q e = absurd (omega (arith, ap (λ (t : Given). t.number) e))
 
-    given : told a ≡ (check_call g marks).given
+  module _ (a : Result Unit Refusal) {after : List ℕ} (seen : check_seen a after ≡ first) where
+    given : told a ≡ first.given
     given = ap (λ (s : CheckSeen). s.given) seen
 
-    pub check_refused_lem : not d ≡ true → check_seen a after ≡ reencode_checked g room marks
-    unfolding asked_in
-    check_refused_lem h =
-        let n : eqb (told a).number 0 ≡ false = sym test ∙ not-true d h in
-        stands_so a (args_told (limits_in room) (no_orphan g) g marks within a after seen (rw n)) (eqb-false (told a).number 0 n)
+    kept : after ≡ first.marks
+    kept = ap (λ (s : CheckSeen). s.marks) seen
 
-    module _ (h : not d ≡ false) where
-      zero : eqb (told a).number 0 ≡ true
-      zero = sym test ∙ not-false d h
+    pub first_refused : {f : Refusal} → a ≡ Err f → check_seen (Err f) after ≡ reencode_checked g room marks
+    unfolding reencode_checked or_else
+    first_refused {f} e = rw (asked_first (no_orphan g) f (was_refused given e), was_refused given e, not_done f, kept) refl
+
+    module _ (e : a ≡ Ok tt) where
+      clean : first.given ≡ done
+      clean = was_done given e
 
       pub accepted : Sized g (length marks) × WellFormed g
-      accepted = (exact g marks).accepted (ap (λ (s : Given). s.number) (sym given) ∙ eqb-true (told a).number 0 zero)
+      accepted = let t = asked_accepted true g room marks (ap (λ (s : Given). s.number) clean) in (t.sized, t.well_formed)
 
       module _ {n : ℕ} (count : n ≡ count_below (leaf_at g.rows) g.counts.rows) where
         counted : n ≡ g.counts.inputs + g.counts.latches + orphans g
         counted = count ∙ leaves_counted g (length marks) accepted.0 accepted.1
 
-        pub orphan_found : (n ≡ g.counts.inputs + g.counts.latches → ⊥) → check_seen BadArgument after ≡ reencode_checked g room marks
-        unfolding asked_in
+        pub orphan_found : (n ≡ g.counts.inputs + g.counts.latches → ⊥) → check_seen (Err BadArgument) after ≡ reencode_checked g room marks
+        unfolding reencode_checked or_else
         orphan_found m =
             let o : eqb (orphans g) 0 ≡ false = ne_eqb (orphans g) 0 (λ (z : orphans g ≡ 0). m (omega (arith, counted))) in
-            stands_so BadArgument (args_bad (limits_in room) (no_orphan g) g marks within a after seen (rw (zero, o))) (λ z. absurd (omega arith))
+            rw (asked_then (no_orphan g) clean, o, kept) refl
 
         module _ (m : n ≡ g.counts.inputs + g.counts.latches) where
-          pub none_left : orphans g ≡ 0
+          none_left : orphans g ≡ 0
           none_left = omega (arith, counted)
 
-          asked : check_seen a after ≡ reencode_asked g room marks
-          unfolding asked_in
-          asked = args_told (limits_in room) (no_orphan g) g marks within a after seen (rw (zero, eq-eqb (orphans g) 0 none_left))
-
           -- then the room decides
-          last : reencode_checked g room marks ≡ record { given = cond (fits_in room g.counts) done no_room; marks = after }
-          unfolding reencode_checked
-          last = rw (← asked) (ap (λ (s : Given). record { given = s; marks = after }) (goes_past (told a) (cond (fits_in room g.counts) done no_room) (eqb-true (told a).number 0 zero)))
+          pub room_missed : fits_in room g.counts ≡ false → check_seen (Err NoRoom) after ≡ reencode_checked g room marks
+          unfolding reencode_checked or_else
+          room_missed h = rw (asked_then (no_orphan g) clean, eq-eqb (orphans g) 0 none_left, h, kept) refl
 
-          pub room_missed : {r : Bool} → r ≡ fits_in room g.counts → not r ≡ true → check_seen NoRoom after ≡ reencode_checked g room marks
-          room_missed {r} e k = let f : fits_in room g.counts ≡ false = sym e ∙ not-true r k in sym (last ∙ rw f)
-
-          pub room_found : {r : Bool} → r ≡ fits_in room g.counts → not r ≡ false → check_seen a after ≡ reencode_checked g room marks
-          room_found {r} e k =
-              let f : fits_in room g.counts ≡ true = sym e ∙ not-false r k in
-              let t : told a ≡ done = given ∙ (exact g marks).accepts accepted.0 accepted.1 in
-              rw t (sym (last ∙ rw f))
+          pub room_found : fits_in room g.counts ≡ true → check_seen (Ok tt) after ≡ reencode_checked g room marks
+          unfolding reencode_checked or_else
+          room_found h = rw (asked_then (no_orphan g) clean, eq-eqb (orphans g) 0 none_left, h, kept) refl
 
 -- ---- what is lent is right, there is no orphan, and there is room
 pub record CallAccepted (g out : Lent) (marks : ℕ) : Type 0 where
@@ -137,24 +147,24 @@ zero_mark : (n : ℕ) (marks : List ℕ) (x : ℕ) → x < n → eqb (get_or (cl
 unfolding member
 zero_mark n marks x l = marks_none n marks x l
 
--- ---- the call: a is the answer, `after` are the marks, and d says whether it is done
-module _ (g out : Lent) (marks : List ℕ) (a : Answer) {after : List ℕ} (seen : check_seen a after ≡ reencode_checked g (room_in out) marks) {d : Bool} (test : d ≡ eqb (told a).number 0) where
+-- ---- the call: a is the answer, and `after` are the marks
+module _ (g out : Lent) (marks : List ℕ) (a : Result Unit Refusal) {after : List ℕ} (seen : check_seen a after ≡ reencode_checked g (room_in out) marks) where
   told_so : told a ≡ (reencode_checked g (room_in out) marks).given
   told_so = ap (λ (s : CheckSeen). s.given) seen
 
   marks_so : after ≡ (reencode_checked g (room_in out) marks).marks
   marks_so = ap (λ (s : CheckSeen). s.marks) seen
 
-  is_done : d ≡ eqb (reencode_checked g (room_in out) marks).given.number 0
-  is_done = test ∙ ap (λ (t : Given). eqb t.number 0) told_so
-
-  pub call_refused : d ≡ false → (r : Rebuilt) → r.answer ≡ a → rebuilt_seen r out after ≡ reencode_call g out marks
+  pub call_refused : {f : Refusal} → a ≡ Err f → rebuilt_seen (Err f) out after ≡ reencode_call g out marks
   unfolding reencode_call
-  call_refused h r e = rw (sym is_done ∙ h, e, told_so, marks_so)
+  call_refused {f} e = rw (was_refused told_so e, not_done f, marks_so) refl
 
-  module _ (h : d ≡ true) where
+  module _ (e : a ≡ Ok tt) where
+    is_done : (reencode_checked g (room_in out) marks).given ≡ done
+    is_done = was_done told_so e
+
     number : (reencode_checked g (room_in out) marks).given.number ≡ 0
-    number = eqb-true (reencode_checked g (room_in out) marks).given.number 0 (sym is_done ∙ h)
+    number = ap (λ (t : Given). t.number) is_done
 
     pub marks_cleared : after ≡ cleared g.counts.rows marks
     marks_cleared = marks_so ∙ checked_cleared g out marks number
@@ -172,11 +182,9 @@ module _ (g out : Lent) (marks : List ℕ) (a : Answer) {after : List ℕ} (seen
           zeros = λ x m. rw marks_cleared (eqb-true (get_or (cleared g.counts.rows marks) x 0) 0 (zero_mark g.counts.rows marks x m));
         }
 
-    pub call_done :
-        {graph : Lent} → graph ≡ reencoded g out → {last : List ℕ} → last ≡ cleared g.counts.rows after → (r : Rebuilt) → r.answer ≡ a → rebuilt_seen r graph last ≡ reencode_call g out
-        marks
+    pub call_done : (n : Counts) {graph : Lent} → graph ≡ reencoded g out → {last : List ℕ} → last ≡ cleared g.counts.rows after → rebuilt_seen (Ok n) graph last ≡ reencode_call g out marks
     unfolding reencode_call
-    call_done p {last} q r e =
+    call_done n p {last} q =
         let m : last ≡ (reencode_checked g (room_in out) marks).marks = q ∙
         (ap (cleared g.counts.rows) marks_cleared ∙ (cleared_again g.counts.rows marks (cleared g.counts.rows marks) refl ∙ (sym marks_cleared ∙ marks_so))) in
-        rw (sym is_done ∙ h, e, told_so, p, m)
+        rw (is_done, p, m) refl

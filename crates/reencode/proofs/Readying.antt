@@ -3,17 +3,17 @@
 use Prim.Native.Nat.{ℕ, ◌+◌, ◌≤◌, ◌<◌, ◌^◌}
 use native.Mathlib.Omega.{arith}
 use mathlib.Core.Path.{◌≡◌, sym, ap, ◌∙◌}
-use mathlib.Core.List.{List, ◌++◌}
-use lib.ListN.{length, get_or, drop, replicate}
+use mathlib.Core.List.{List}
+use lib.ListN.{length, get_or, take, drop}
+use Rattle.std.proofs.lemmas.List.{get_or-take, length-take-le}
 use Rattle.rows.specs.Sizes.{max_rows}
 use Rattle.graph.specs.declared.Counts.{Counts}
 use Rattle.graph.specs.Latches.{latch_at}
-use Rattle.graph.specs.Graph.{Lent, lent, Sized, no_counts}
-use Rattle.graph.specs.Check.{cleared}
+use Rattle.graph.specs.Graph.{Lent, Sized, no_counts}
 use Rattle.graph.specs.WellFormed.{WellFormed, leaf_list}
 use Rattle.graph.proofs.Listed.{all_long, input_at, latch_at_lem}
 use Rattle.output.specs.Writing.{written}
-use Rattle.renumber.specs.Renumber.{ids_of, Lists, lists, lists_of, renumber, graph_of, by}
+use Rattle.renumber.specs.Renumber.{ids_of, Lists, lists_of, renumber, graph_of, by}
 use Rattle.renumber.specs.Steps.{IdsReady, ListsReady}
 use Rattle.renumber.specs.Steps.{MarksHold, Small}
 use Rattle.output.proofs.Writing.{written_same}
@@ -28,7 +28,19 @@ use Rattle.reencode.proofs.Numbering.{numbered_same, numbered_small, gates_same}
 use Rattle.reencode.proofs.Leaving.{listed_leaf, rows_counted}
 
 -- ---- the rows and the numbers
-module _ (rows inputs latches : List ℕ) (n : Counts) (marks : List ℕ) (r : RowsReady rows inputs latches n marks) where
+module _ (g : Lent) (marks : List ℕ) (r : RowsReady g marks) where
+  abbrev n : Counts
+  n = g.counts
+
+  abbrev rows : List ℕ
+  rows = g.rows
+
+  abbrev inputs : List ℕ
+  inputs = g.inputs
+
+  abbrev latches : List ℕ
+  latches = g.latches
+
   abbrev list : List ℕ
   list = leaf_list inputs n.inputs latches n.latches
 
@@ -47,10 +59,15 @@ module _ (rows inputs latches : List ℕ) (n : Counts) (marks : List ℕ) (r : R
   latch_used : (j : ℕ) → j < n.latches → latch_id j < n.rows
   latch_used j l = rw (← (latch_at_lem inputs n.inputs latches n.latches r.inputs_long j l)) (r.used (n.inputs + j) (omega (arith, long)))
 
-  pub inputs_marked : IdsMarked marks input_id 1 n.inputs
-  inputs_marked = record { marked = λ j l. omega (arith, input_used j l, r.marks_long); few = omega (arith, r.few) }
+  abbrev front : List ℕ
+  front = take n.inputs inputs
 
-  module _ {one : List ℕ} (p : one ≡ placed marks input_id 1 n.inputs) where
+  module _ {one : List ℕ} (numbered_front : one ≡ placed marks (λ (j : ℕ). get_or front j 0) 1 (length front)) where
+    p : one ≡ placed marks input_id 1 n.inputs
+    p =
+        numbered_front ∙ (ap (placed marks (λ (j : ℕ). get_or front j 0) 1) (length-take-le n.inputs inputs r.inputs_long) ∙
+        placed_same marks (λ (j : ℕ). get_or front j 0) input_id 1 n.inputs (λ j l. get_or-take n.inputs inputs j 0 l))
+
     one_long : length one ≡ length marks
     one_long = ap length p ∙ placed_length marks input_id 1 n.inputs
 
@@ -94,7 +111,7 @@ module _ (rows inputs latches : List ℕ) (n : Counts) (marks : List ℕ) (r : R
       -- what is written
       pub rows_written :
           (out three : List ℕ) {first last : List ℕ} → first ≡ leaves_added out (n.inputs + n.latches) → last ≡ gates_added (numbered rows (first_gate n) (by two)) rows (first_gate n) first
-          n.rows → MarksHold n.rows (numbered rows (first_gate n) (by two)) three → drop n.rows three ≡ drop n.rows two → (last ≡ rows_of rows inputs latches n out) ×
+          n.rows → MarksHold n.rows (numbered rows (first_gate n) (by two)) three → drop n.rows three ≡ drop n.rows two → (last ≡ rows_of g out) ×
           (MarksHold n.rows (number_of rows inputs latches n) three × (drop n.rows three ≡ drop n.rows marks))
       unfolding rows_of
       rows_written out three {first} a b h d = (
@@ -106,7 +123,7 @@ module _ (rows inputs latches : List ℕ) (n : Counts) (marks : List ℕ) (r : R
 
 -- ---- a well-formed graph
 pub rows_ready : (g : Lent) (k : ℕ) → Sized g k → WellFormed g → (marks : List ℕ) → g.counts.rows ≤ length marks → MarksHold g.counts.rows (λ (_ : ℕ). 0) marks
-    → RowsReady g.rows g.inputs g.latches g.counts marks
+    → RowsReady g marks
 rows_ready g k s w marks l z =
     record {
       rows_long = omega (arith, s.rows.fit.within);
@@ -132,7 +149,7 @@ new_small g k s w =
 
 -- ---- the whole graph, by the map that the marks hold
 module _ (g out : Lent) (marks : List ℕ) (r : ReencodeReady g out marks) where
-  pub to_rows : RowsReady g.rows g.inputs g.latches g.counts marks
+  pub to_rows : RowsReady g marks
   to_rows = rows_ready g r.marked r.sized r.well_formed marks r.marks_long r.zeros
 
   small : Small g.counts.rows (new_id g)
@@ -158,15 +175,12 @@ module _ (g out : Lent) (marks : List ℕ) (r : ReencodeReady g out marks) where
               (lists_room out g.counts r.room) (omega arith),
         )
 
-    pub all_written : {at : Counts} → at ≡ no_counts → {a b c d e f i j k : List ℕ} → a ≡ rows_of g.rows g.inputs g.latches g.counts out.rows
-        → b ≡ written out.inputs 0 (ids_of (by map) g.inputs) g.counts.inputs → lists c d e f i j k ≡ renumber (by map) (lists_of out) at (lists_of g) g.counts
-        → lent a b c d e f i j k g.counts ≡ reencoded g out
+    pub all_written : {at : Counts} → at ≡ no_counts → {a b : List ℕ} {ls : Lists} → a ≡ rows_of g out.rows
+        → b ≡ written out.inputs 0 (ids_of (by map) g.inputs) g.counts.inputs → ls ≡ renumber (by map) (lists_of out) at (lists_of g) g.counts
+        → graph_of a b ls g.counts ≡ reencoded g out
     unfolding reencoded
     all_written n {a} {b} p q t =
         let q' = q ∙ written_same out.inputs 0 (ids_of (by map) g.inputs) (ids_of (new_id g) g.inputs) g.counts.inputs (λ j l. h (get_or g.inputs j 0) (r.well_formed.inputs j l).0) in
         let t' = t ∙ (ap (λ (x : Counts). renumber (by map) (lists_of out) x (lists_of g) g.counts) n
         ∙ renumber_by g.counts.rows (new_id g) map h (lists_of out) no_counts (lists_of g) g.counts (lists_used g r.marked r.sized r.well_formed)) in
         ap (λ (l : Lists). graph_of a b l g.counts) t' ∙ rw (p, q')
-
-pub cleared_same : (n : ℕ) (old new : List ℕ) {last : List ℕ} → drop n new ≡ drop n old → last ≡ cleared n new → last ≡ cleared n old
-cleared_same n old new d e = e ∙ ap (λ (l : List ℕ). replicate n 0 ++ l) d

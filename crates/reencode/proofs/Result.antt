@@ -82,7 +82,7 @@ module _ (g out : Lent) (marks : ℕ) (s : Sized g marks) (w : WellFormed g) (no
   new = reencoded g out
 
   abbrev rows : List ℕ
-  rows = rows_of g.rows g.inputs g.latches g.counts out.rows
+  rows = rows_of g out.rows
 
   limit : used ≤ max_rows
   limit = omega (arith, s.rows.fit.within, s.rows.fit.limited)

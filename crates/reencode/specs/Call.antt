@@ -6,8 +6,7 @@ use Rattle.rows.specs.Reading.{if_done}
 use Rattle.graph.specs.declared.Counts.{Counts}
 use Rattle.graph.specs.Graph.{Lent}
 use Rattle.graph.specs.Check.{CheckSeen}
-use Rattle.renumber.specs.declared.Rebuilt.{Rebuilt}
-use Rattle.renumber.specs.Seen.{RebuiltSeen, rebuilt_seen, SameRebuilt, rebuilt_determined}
+use Rattle.renumber.specs.Seen.{Rebuilt, RebuiltSeen, rebuilt_seen, SameRebuilt, rebuilt_determined}
 use Rattle.output.specs.Room.{room_in, fits_in}
 use Rattle.output.specs.Asking.{asked_in}
 use Rattle.reencode.specs.Numbers.{orphans}

@@ -1,9 +1,8 @@
 -- What only the proofs need: what a step asks of its caller, and what its functions count on the way.
 -- Assumes nothing.
 use Rattle.std.specs.Prelude.{ℕ, zero, suc, ◌+◌, ◌*◌, ◌≤◌, ◌<◌, List, ◌≡◌, set, length, get_or}
-use Rattle.graph.specs.declared.Counts.{Counts}
 use Rattle.graph.specs.Graph.{Lent, Sized}
-use Rattle.graph.specs.WellFormed.{leaf_list, WellFormed}
+use Rattle.graph.specs.WellFormed.{listed, WellFormed}
 use Rattle.graph.specs.Count.{gates_below}
 use Rattle.rows.specs.Sizes.{max_rows}
 use Rattle.graph.specs.Latches.{latch_words}
@@ -39,17 +38,16 @@ pub record GatesReady (rows : List ℕ) (used first : ℕ) (marks : List ℕ) : 
   pub small : Small used (numbered rows first (by marks))
 
 -- no row is numbered: the marks are 0
-pub record RowsReady (rows inputs latches : List ℕ) (n : Counts) (marks : List ℕ) : Type 0 where
-  pub rows_long : 2 * n.rows ≤ length rows
-  pub inputs_long : n.inputs ≤ length inputs
-  pub latches_long : latch_words * n.latches ≤ length latches
-  pub marks_long : n.rows ≤ length marks
-  pub zeros : MarksHold n.rows (λ (_ : ℕ). 0) marks
-  pub few : first_gate n + gates_below rows n.rows ≤ max_rows
-  pub rows_few : n.rows ≤ max_rows
-  pub used : (j : ℕ) → j < length (leaf_list inputs n.inputs latches n.latches) → get_or (leaf_list inputs n.inputs latches n.latches) j 0 < n.rows
-  pub once : (i j : ℕ) → i < j → j < length (leaf_list inputs n.inputs latches n.latches)
-      → get_or (leaf_list inputs n.inputs latches n.latches) i 0 ≡ get_or (leaf_list inputs n.inputs latches n.latches) j 0 → ⊥
+pub record RowsReady (g : Lent) (marks : List ℕ) : Type 0 where
+  pub rows_long : 2 * g.counts.rows ≤ length g.rows
+  pub inputs_long : g.counts.inputs ≤ length g.inputs
+  pub latches_long : latch_words * g.counts.latches ≤ length g.latches
+  pub marks_long : g.counts.rows ≤ length marks
+  pub zeros : MarksHold g.counts.rows (λ (_ : ℕ). 0) marks
+  pub few : first_gate g.counts + gates_below g.rows g.counts.rows ≤ max_rows
+  pub rows_few : g.counts.rows ≤ max_rows
+  pub used : (j : ℕ) → j < length (listed g) → get_or (listed g) j 0 < g.counts.rows
+  pub once : (i j : ℕ) → i < j → j < length (listed g) → get_or (listed g) i 0 ≡ get_or (listed g) j 0 → ⊥
 
 -- no answer is left, and the marks are 0
 pub record ReencodeReady (g out : Lent) (marks : List ℕ) : Type 0 where

@@ -1,4 +1,5 @@
 // Gates are numbered and rebuilt in row order. A gate's fanins stand below it, so they have their numbers by then.
+// Memory is lent with room beyond the used entries, and a promise speaks of all that is lent: so how many are used stands beside a table.
 ghost use Rattle.std.specs.Prelude.{◌≡◌, cond, ◌+◌, set, drop};
 ghost use Rattle.rows.specs.Rows.{gate_at};
 ghost use Rattle.renumber.specs.Renumber.{by};

@@ -1,4 +1,5 @@
 // Inputs and latches are numbered from 1 on; the number of a row is held in its mark.
+// Memory is lent with room beyond the used entries, and a promise speaks of all that is lent: so how many are used stands beside a table.
 ghost use Rattle.std.specs.Prelude.{◌≡◌, ℕ, ◌+◌, ◌*◌, ◌≤◌, length, get_or};
 ghost use Rattle.rows.specs.Sizes.{max_rows};
 ghost use Rattle.rows.specs.Rows.{leaf_at, AllRows};
@@ -12,7 +13,7 @@ use gates::add_row;
 use graph::latch::latch_at;
 use rows::kinds;
 
-// Of well-formed rows a leaf alone has the none word: nothing else need be asked.
+// Of well-formed rows a leaf alone has the none word: nothing else need be asked. The loop has no branch a row; `filter` and `count` made one, and took five times as long.
 pub fn count_leaves(rows: &[u32], used: usize) -> usize
     requires used_in_bounds { 2 * used ≤ length rows.now }
     requires used_le_max_rows { used ≤ max_rows }
@@ -28,16 +29,16 @@ pub fn count_leaves(rows: &[u32], used: usize) -> usize
     n
 }
 
-pub fn number_inputs(inputs: &[u32], n: usize, marks: &mut [u32])
-    requires n_in_bounds { n ≤ length inputs.now }
-    requires ids_marked { IdsMarked marks.old (λ (j : ℕ). get_or inputs.now j 0) 1 n }
-    ensures { marks.new ≡ placed marks.old (λ (j : ℕ). get_or inputs.now j 0) 1 n }
+pub fn number_inputs(inputs: &[u32], marks: &mut [u32])
+    requires { IdsMarked marks.old (λ (j : ℕ). get_or inputs.now j 0) 1 (length inputs.now) }
+    ensures { marks.new ≡ placed marks.old (λ (j : ℕ). get_or inputs.now j 0) 1 (length inputs.now) }
 {
-    for j in 0..n {
-        marks[inputs[j] as usize] = (1 + j) as u32;
+    for (j, input) in inputs.iter().enumerate() {
+        marks[*input as usize] = (1 + j) as u32;
     }
 }
 
+// Not one function with `number_inputs`: a latch's input is one word of several, and the proof names each row that it marks.
 pub fn number_latches(latches: &[u32], n: usize, first: usize, marks: &mut [u32])
     requires n_in_bounds { latch_words * n ≤ length latches.now }
     requires ids_marked { IdsMarked marks.old (λ (j : ℕ). (latch_at latches.now j).input) first n }

@@ -3,27 +3,27 @@
 use Prim.Native.Nat.{ℕ, ◌≤◌}
 use native.Mathlib.Omega.{arith}
 use mathlib.Core.Path.{◌≡◌, refl, sym, ap, ◌∙◌}
-use mathlib.Core.Bool.{Bool, true, false, not, cond, ◌&&◌}
+use mathlib.Core.Bool.{Bool, true, false, cond, ◌&&◌}
 use mathlib.Core.List.{List, ◌++◌}
 use lib.ListN.{length, take, drop, replicate, length-replicate, length-append, length-drop}
 use lib.Seq.{take_at, drop_at}
-use lib.Dec.{eqb, leb}
-use borrow.Author.Tests.{eqb-true, eqb-false, leb-true, not-true, not-false}
-use Rattle.edge.specs.declared.answer.Answer.{Answer}
-use Rattle.edge.specs.declared.answer.Answer.TheVariants.{NoRoom}
+use lib.Dec.{leb}
+use borrow.Author.Tests.{leb-true}
+use Rattle.std.specs.Prelude.{Result, Ok, Err}
+use Rattle.edge.specs.declared.answer.Refusal.{Refusal}
+use Rattle.edge.specs.declared.answer.Refusal.TheVariants.{NoRoom}
 use Rattle.edge.specs.declared.answer.Given.{Given}
-use Rattle.edge.specs.Answers.{done, no_room, told}
+use Rattle.edge.specs.Answers.{done, no_room, refused, told, value_or, or_else}
 use Rattle.edge.proofs.Tests.{both}
-use Rattle.edge.proofs.Answers.{stops_here, goes_past, none_of_two, test_done, test_refused}
+use Rattle.edge.proofs.Answers.{goes_past, none_of_two, not_done, was_done, was_refused}
 use Rattle.graph.specs.declared.Counts.{Counts}
 use Rattle.graph.specs.Graph.{Lent}
 use Rattle.graph.specs.Check.{cleared, CheckSeen, check_seen}
-use Rattle.renumber.specs.declared.Rebuilt.{Rebuilt}
+use Rattle.renumber.specs.Seen.{Rebuilt, listed_seen}
 use Rattle.output.specs.Room.{room_in, fits_in, Fits}
 use Rattle.output.proofs.Fitting.{limited, fits_known}
-use Rattle.output.proofs.Asking.{asked_accepted, asked_done, asked_cleared}
-use Rattle.kept_rows.specs.Kept.{kept_flags}
-use Rattle.kept_rows.specs.Steps.{kept_cone_of}
+use Rattle.output.proofs.Asking.{asked_accepted, asked_cleared}
+use Rattle.kept_rows.specs.Kept.{kept_flags, kept_cone}
 use Rattle.kept_rows.specs.Keeping.{new_ids, kept_counts}
 use Rattle.refine.specs.Steps.{RefineReady, WriteReady}
 use Rattle.refine.specs.Refining.{refined_counts, refined, old_rows}
@@ -41,10 +41,6 @@ asked_clears g room marks z = asked_cleared true g room marks (λ (o : (refine_a
 module _ (g : Lent) (room : Counts) (old : ℕ) (marks : List ℕ) where
   abbrev asked : Given
   asked = (refine_asked g room marks).given
-
-  pub answer_stops : (asked.number ≡ 0 → ⊥) → refine_answer g room old marks ≡ asked
-  unfolding refine_answer
-  answer_stops h = stops_here asked (cond (refine_room g room old) done no_room) h
 
   pub answer_goes : asked.number ≡ 0 → refine_answer g room old marks ≡ cond (refine_room g room old) done no_room
   unfolding refine_answer
@@ -68,23 +64,25 @@ all_right g out old marks z =
     let r = room_known g (room_in out) (length old) marks t.1 in
     record { limited = limited out a.roomy; sized = a.sized; well_formed = a.well_formed; room = r.0; old_room = r.1 }
 
--- ---- the check: a is the answer up to 3, `after` are the marks, and d says whether it is done
-module _ (g : Lent) (room : Counts) (old : ℕ) (marks : List ℕ) (a : Answer) {after : List ℕ} (seen : check_seen a after ≡ refine_asked g room marks) {d : Bool} (test : d ≡ eqb (told a).number 0) where
+-- ---- the check: a is the answer up to 3, and `after` are the marks
+module _ (g : Lent) (room : Counts) (old : ℕ) (marks : List ℕ) (a : Result Unit Refusal) {after : List ℕ} (seen : check_seen a after ≡ refine_asked g room marks) where
   given : told a ≡ (refine_asked g room marks).given
   given = ap (λ (s : CheckSeen). s.given) seen
 
   kept : after ≡ (refine_asked g room marks).marks
   kept = ap (λ (s : CheckSeen). s.marks) seen
 
-  pub checked_refused : not d ≡ true → record { given = told a; counts = g.counts; marks = after } ≡ refine_checked g room old marks
-  unfolding refine_checked
-  checked_refused h =
-      let f = test_refused given test h in
-      rw (answer_stops g room old marks (eqb-false _ _ f), f, given, kept)
+  stopped : {f : Refusal} → a ≡ Err f → refine_answer g room old marks ≡ refused f
+  unfolding refine_answer or_else
+  stopped {f} e = rw (was_refused given e, not_done f) refl
 
-  module _ (h : not d ≡ false) where
+  pub checked_refused : {f : Refusal} → a ≡ Err f → found_seen g.counts (Err f) after ≡ refine_checked g room old marks
+  unfolding refine_checked
+  checked_refused {f} e = rw (stopped e, not_done f, kept) refl
+
+  module _ (h : a ≡ Ok tt) where
     number : (refine_asked g room marks).given.number ≡ 0
-    number = eqb-true _ _ (test_done given test h)
+    number = ap (λ (t : Given). t.number) (was_done given h)
 
     marks_are : after ≡ cleared g.counts.rows marks
     marks_are = kept ∙ asked_clears g room marks number
@@ -131,7 +129,7 @@ module _ (g : Lent) (room : Counts) (old : ℕ) (marks : List ℕ) (a : Answer) 
         }
 
     -- they hold the new numbers
-    module _ {ids : List ℕ} (q : ids ≡ new_ids (kept_cone_of g)) where
+    module _ {ids : List ℕ} (q : ids ≡ new_ids (kept_cone g)) where
       numbers_are : ids ++ drop g.counts.rows after ≡ new_ids (kept_flags g) ++ drop g.counts.rows marks
       numbers_are = rw (ids_are_kept g (take g.counts.rows after) lending.ready q, rest_kept)
 
@@ -143,7 +141,7 @@ module _ (g : Lent) (room : Counts) (old : ℕ) (marks : List ℕ) (a : Answer) 
           omega (arith, length-append ids (drop g.counts.rows after), kept_ids_long g (take g.counts.rows after) lending.ready q, length-drop g.counts.rows after, lending.long)
 
       -- `all_fit` is what the tests say
-      module _ {need : Counts} (n : need ≡ kept_counts (kept_cone_of g) g.inputs g.counts) {fits all_fit : Bool} (e : fits ≡ fits_in room need) (p : all_fit ≡ fits && leb need.rows old) where
+      module _ {need : Counts} (n : need ≡ kept_counts (kept_cone g) g.inputs g.counts) {fits all_fit : Bool} (e : fits ≡ fits_in room need) (p : all_fit ≡ fits && leb need.rows old) where
         counts_are : need ≡ refined_counts g
         counts_are = need_is g (take g.counts.rows after) lending.ready n
 
@@ -151,55 +149,49 @@ module _ (g : Lent) (room : Counts) (old : ℕ) (marks : List ℕ) (a : Answer) 
         room_is = p ∙ rw (e, counts_are)
 
         pub no_room_lem :
-            not all_fit ≡ true → {last : List ℕ} → last ≡ cleared g.counts.rows (ids ++ drop g.counts.rows after) → record { given = told NoRoom; counts = g.counts; marks = last } ≡
-            refine_checked g room old marks
+            all_fit ≡ false → {last : List ℕ} → last ≡ cleared g.counts.rows (ids ++ drop g.counts.rows after) → found_seen g.counts (Err NoRoom) last ≡ refine_checked g room old marks
         unfolding refine_checked
         no_room_lem f c =
             let t = asked_accepted true g room marks number in
             let l = cleared_back g marks t.sized t.well_formed numbers_are c ∙ sym (asked_clears g room marks number) in
-            rw (answer_goes g room old marks number, sym room_is ∙ not-true all_fit f, l)
+            rw (answer_goes g room old marks number, sym room_is ∙ f, l) refl
 
-        pub all_found : not all_fit ≡ false → record { given = told a; counts = need; marks = ids ++ drop g.counts.rows after } ≡ refine_checked g room old marks
+        pub all_found : all_fit ≡ true → found_seen g.counts (Ok need) (ids ++ drop g.counts.rows after) ≡ refine_checked g room old marks
         unfolding refine_checked
-        all_found f = rw (answer_goes g room old marks number, sym room_is ∙ not-false all_fit f, given, asked_done true g room marks number, counts_are, numbers_are)
+        all_found f = rw (answer_goes g room old marks number, sym room_is ∙ f, counts_are, numbers_are) refl
 
--- ---- the call: r is what the check found, `after` are the marks, and d says whether the answer is done
-module _ (g out : Lent) (old marks : List ℕ) (r : Rebuilt) {after : List ℕ} (seen : found_seen r after ≡ refine_checked g (room_in out) (length old) marks) {d : Bool}
-    (test : d ≡ eqb (told r.answer).number 0) where
-  answer_is : told r.answer ≡ refine_answer g (room_in out) (length old) marks
+-- ---- the call: r is what the check found, and `after` are the marks
+module _ (g out : Lent) (old marks : List ℕ) (r : Rebuilt) {after : List ℕ} (seen : found_seen g.counts r after ≡ refine_checked g (room_in out) (length old) marks) where
+  answer_is : told r ≡ refine_answer g (room_in out) (length old) marks
   unfolding refine_checked
   answer_is = ap (λ (s : FoundSeen). s.given) seen
 
-  module _ (h : not d ≡ true) where
-    refusal : eqb (refine_answer g (room_in out) (length old) marks).number 0 ≡ false
-    refusal = test_refused answer_is test h
-
-    pub counts_stay : r.counts ≡ g.counts
-    unfolding refine_checked
-    counts_stay = ap (λ (s : FoundSeen). s.counts) seen ∙ rw refusal
+  module _ {f : Refusal} (e : r ≡ Err f) where
+    refusal : refine_answer g (room_in out) (length old) marks ≡ refused f
+    refusal = was_refused answer_is e
 
     marks_asked : after ≡ (refine_asked g (room_in out) marks).marks
     unfolding refine_checked
-    marks_asked = ap (λ (s : FoundSeen). s.marks) seen ∙ rw refusal
+    marks_asked = ap (λ (s : FoundSeen). s.marks) seen ∙ rw (refusal, not_done f) refl
 
-    pub refine_refused : record { given = told r.answer; graph = out; old = old; marks = after } ≡ refine_call g out old marks
+    pub refine_refused : listed_seen (Err f) out old after ≡ refine_call g out old marks
     unfolding refine_call
-    refine_refused = rw (refusal, answer_is, marks_asked)
+    refine_refused = rw (refusal, not_done f, marks_asked) refl
 
-  module _ (h : not d ≡ false) where
-    done_is : eqb (refine_answer g (room_in out) (length old) marks).number 0 ≡ true
-    done_is = test_done answer_is test h
+  module _ {n : Counts} (e : r ≡ Ok n) where
+    done_is : refine_answer g (room_in out) (length old) marks ≡ done
+    done_is = was_done answer_is e
 
     right : RefineLent g out old marks
-    right = all_right g out old marks (eqb-true _ _ done_is)
+    right = all_right g out old marks (ap (λ (t : Given). t.number) done_is)
 
-    pub counts_found : r.counts ≡ refined_counts g
+    pub counts_found : n ≡ refined_counts g
     unfolding refine_checked
-    counts_found = ap (λ (s : FoundSeen). s.counts) seen ∙ rw done_is
+    counts_found = sym (ap (λ (q : Rebuilt). value_or g.counts q) e) ∙ (ap (λ (s : FoundSeen). s.counts) seen ∙ rw done_is refl)
 
     marks_found : after ≡ new_ids (kept_flags g) ++ drop g.counts.rows marks
     unfolding refine_checked
-    marks_found = ap (λ (s : FoundSeen). s.marks) seen ∙ rw done_is
+    marks_found = ap (λ (s : FoundSeen). s.marks) seen ∙ rw done_is refl
 
     pub ready_to_write : WriteReady g out old after
     ready_to_write = write_ready g marks right.sized right.well_formed marks_found out old right.room right.old_room
@@ -207,10 +199,10 @@ module _ (g out : Lent) (old marks : List ℕ) (r : Rebuilt) {after : List ℕ} 
     pub marks_cover : g.counts.rows ≤ length after
     marks_cover = omega (arith, same_long g marks right.sized right.well_formed marks_found, right.sized.marked)
 
-    pub refine_done : {new : Lent} {rows-were last : List ℕ} → new ≡ refined g out → rows-were ≡ old_rows g old → last ≡ cleared g.counts.rows after
-        → record { given = told r.answer; graph = new; old = rows-were; marks = last } ≡ refine_call g out old marks
+    pub refine_done : (m : Counts) {new : Lent} {rows-were last : List ℕ} → new ≡ refined g out → rows-were ≡ old_rows g old → last ≡ cleared g.counts.rows after
+        → listed_seen (Ok m) new rows-were last ≡ refine_call g out old marks
     unfolding refine_call refine_answer
-    refine_done a b c =
-        let z = (none_of_two (refine_asked g (room_in out) marks).given (cond (refine_room g (room_in out) (length old)) done no_room) (eqb-true _ _ done_is)).0 in
+    refine_done m a b c =
+        let z = (none_of_two (refine_asked g (room_in out) marks).given (cond (refine_room g (room_in out) (length old)) done no_room) (ap (λ (t : Given). t.number) done_is)).0 in
         let l = cleared_back g marks right.sized right.well_formed marks_found c ∙ sym (asked_clears g (room_in out) marks z) in
-        rw (done_is, answer_is, a, b, l)
+        rw (done_is, a, b, l) refl

@@ -2,10 +2,13 @@
 -- Assumes nothing.
 use Prim.Native.Nat.{ℕ, ◌≤◌, ◌<◌}
 use native.Mathlib.Omega.{arith}
+use native.Mathlib.Nat.{le_of_eq}
 use mathlib.Core.Path.{◌≡◌, refl, sym, ap, subst, ◌∙◌}
 use mathlib.Core.List.{List, ◌++◌}
-use lib.ListN.{length, get_or, drop, replicate, length-replicate, length-append, length-drop, get_or-append}
+use lib.ListN.{length, get_or, take, drop, replicate, length-replicate, length-append, length-drop, get_or-append}
 use lib.Seq.{drop_at}
+use Rattle.std.specs.Prelude.{All}
+use Rattle.std.proofs.lemmas.List.{get_or_default, get_or-take, length-take-le}
 use Rattle.rows.specs.Sizes.{max_rows}
 use Rattle.graph.specs.declared.Counts.{Counts}
 use Rattle.graph.specs.Graph.{Lent, Sized, no_counts}
@@ -21,29 +24,32 @@ use Rattle.renumber.specs.Steps.{MarksHold, Small}
 use Rattle.output.specs.Room.{Room}
 use Rattle.graph.proofs.Counting.{count_same}
 use Rattle.renumber.proofs.Mapping.{lists_used, lists_room, renumber_by, known, lists_ready}
-use Rattle.kept_rows.specs.Kept.{kept_flags}
-use Rattle.kept_rows.specs.Steps.{kept_cone_of}
+use Rattle.kept_rows.specs.Kept.{kept_flags, kept_cone}
 use Rattle.kept_rows.specs.Keeping.{word_put, kept_row, kept_id, new_ids, numbered, kept_input, with_kept, kept_counts}
 use Rattle.kept_rows.specs.Copying.{row_put, rows_kept, inputs_kept, old_kept}
 use Rattle.kept_rows.specs.Steps.{FlagsReady, IdsThere, RowsReady, KeptReady}
 use Rattle.refine.specs.Steps.{RefineReady, WriteReady}
 use Rattle.refine.specs.Refining.{refined_counts, refined, old_rows}
-use Rattle.kept_rows.proofs.Copying.{kept_same, row_put_same}
+use Rattle.kept_rows.proofs.Copying.{kept_same, row_put_same, inputs_front, count_front}
 use Rattle.kept_rows.proofs.Numbering.{numbered_kept, ids_hold, ids_long, ids_small, inputs_kept_lem}
 use Rattle.kept_rows.proofs.Reaching.{kept_coi, kept_is}
 
+-- ---- the inputs of a well-formed graph are used rows
+inputs_within : (g : Lent) (marks : ℕ) → Sized g marks → WellFormed g → {n : ℕ} → g.counts.rows ≤ n → All (λ (x : ℕ). x < n) (take g.counts.inputs g.inputs)
+inputs_within g marks s w h j d l =
+    let m : j < g.counts.inputs = omega (arith, length-take-le g.counts.inputs g.inputs s.inputs.within) in
+    rw (get_or_default (take g.counts.inputs g.inputs) j d 0 l, get_or-take g.counts.inputs g.inputs j 0 m) (omega (arith, (w.inputs j m).0))
+
 -- ---- a well-formed graph, whose marks are 0
 module _ (g : Lent) (marks : List ℕ) (r : RefineReady g marks) where
-  pub flags_ready : FlagsReady g.rows g.latches g.constraints g.bads g.outputs g.edges g.fairness g.counts marks
+  pub flags_ready : FlagsReady g marks
   flags_ready =
-      let k = roots_known g (length marks) r.sized r.well_formed in
       record {
         some = r.sized.rows.some;
         small = omega (arith, r.sized.rows.fit.within, r.sized.rows.fit.limited);
         rows_long = omega (arith, r.sized.rows.fit.within);
         zeros = r.zeros;
-        fit = k.fit;
-        roots_used = k.used;
+        roots = roots_known g (length marks) r.sized r.well_formed;
         inputs_used = record { has = omega (arith, r.sized.latches.within); used = λ i l. (r.well_formed.latches i l).0 };
       }
 
@@ -51,13 +57,13 @@ module _ (g : Lent) (marks : List ℕ) (r : RefineReady g marks) where
   zeros_long = ap length r.zeros ∙ length-replicate g.counts.rows 0
 
   pub inputs_there : IdsThere marks g.inputs g.counts.inputs
-  inputs_there = record { has = r.sized.inputs.within; there = λ j l. rw zeros_long (r.well_formed.inputs j l).0 }
+  inputs_there = record { has = r.sized.inputs.within; there = inputs_within g (length marks) r.sized r.well_formed (le_of_eq (sym zeros_long)) }
 
-  cone_is : kept_cone_of g ≡ kept_flags g
+  cone_is : kept_cone g ≡ kept_flags g
   cone_is = kept_is g (length marks) r.sized r.well_formed marks flags_ready
 
   -- the marks, once they hold the numbers
-  module _ {ids : List ℕ} (q : ids ≡ new_ids (kept_cone_of g)) where
+  module _ {ids : List ℕ} (q : ids ≡ new_ids (kept_cone g)) where
     pub ids_are_kept : ids ≡ new_ids (kept_flags g)
     ids_are_kept = q ∙ ap new_ids cone_is
 
@@ -70,7 +76,7 @@ module _ (g : Lent) (marks : List ℕ) (r : RefineReady g marks) where
     pub kept_ids_long : length ids ≡ g.counts.rows
     kept_ids_long = ap length ids_are_kept ∙ (ids_long (kept_flags g) kept_first ∙ kept_long)
 
-  module _ {need : Counts} (e : need ≡ kept_counts (kept_cone_of g) g.inputs g.counts) where
+  module _ {need : Counts} (e : need ≡ kept_counts (kept_cone g) g.inputs g.counts) where
     pub need_is : need ≡ refined_counts g
     need_is = e ∙ ap (λ (f : List ℕ). kept_counts f g.inputs g.counts) cone_is
 
@@ -139,12 +145,17 @@ module _ (g out : Lent) (old map : List ℕ) (r : WriteReady g out old map) wher
   input_used : (j : ℕ) → j < g.counts.inputs → get_or g.inputs j 0 < used
   input_used j l = (r.well_formed.inputs j l).0
 
-  pub inputs_ready : KeptReady map g.inputs g.counts.inputs out.inputs
+  pub inputs_ready : KeptReady map (take g.counts.inputs g.inputs) out.inputs
   unfolding with_kept
   inputs_ready =
       record {
-        there = record { has = r.sized.inputs.within; there = λ j l. omega (arith, input_used j l, r.sized.marked) };
-        room = omega (arith, inputs_kept_lem flags zero_kept map used r.holds g.inputs g.counts.inputs input_used, r.room.inputs);
+        there = inputs_within g (length map) r.sized r.well_formed r.sized.marked;
+        room = omega (
+          arith,
+          count_front (numbered map) g.inputs g.counts.inputs r.sized.inputs.within,
+          inputs_kept_lem flags zero_kept map used r.holds g.inputs g.counts.inputs input_used,
+          r.room.inputs,
+        );
       }
 
   pub all_ready : ListsReady map (lists_of out) no_counts (lists_of g) g.counts
@@ -163,14 +174,18 @@ module _ (g out : Lent) (old map : List ℕ) (r : WriteReady g out old map) wher
       kept_same (numbered map) (kept_row flags) (row_put (by map) g.rows) (row_put (kept_id flags) g.rows) out.rows used same_kept
       (λ l k i m. row_put_same (by map) (kept_id flags) g.rows i (λ j b. r.holds j (omega arith)) l k)
 
-  inputs_done : inputs_kept (numbered map) (by map) g.inputs out.inputs g.counts.inputs ≡ inputs_kept (kept_row flags) (kept_id flags) g.inputs out.inputs g.counts.inputs
+  abbrev inputs : List ℕ
+  inputs = take g.counts.inputs g.inputs
+
+  inputs_done : inputs_kept (numbered map) (by map) inputs out.inputs (length inputs) ≡ inputs_kept (kept_row flags) (kept_id flags) g.inputs out.inputs g.counts.inputs
   inputs_done =
+      inputs_front (numbered map) (by map) g.inputs out.inputs g.counts.inputs r.sized.inputs.within ∙
       kept_same (kept_input (numbered map) g.inputs) (kept_input (kept_row flags) g.inputs) (word_put (ids_of (by map) g.inputs)) (word_put (ids_of (kept_id flags) g.inputs))
       out.inputs g.counts.inputs (λ j l. same_kept (get_or g.inputs j 0) (input_used j l))
       (λ l k j m. ap (λ (x : ℕ). word_put (λ (_ : ℕ). x) l k j) (r.holds (get_or g.inputs j 0) (input_used j m)))
 
   pub write_done : {a b : List ℕ} {l : Lists}
-      → a ≡ rows_kept (numbered map) (by map) g.rows out.rows used → b ≡ inputs_kept (numbered map) (by map) g.inputs out.inputs g.counts.inputs
+      → a ≡ rows_kept (numbered map) (by map) g.rows out.rows used → b ≡ inputs_kept (numbered map) (by map) inputs out.inputs (length inputs)
       → l ≡ renumber (by map) (lists_of out) no_counts (lists_of g) g.counts → graph_of a b l (refined_counts g) ≡ refined g out
   unfolding refined
   write_done {a} {b} {l} p q s =

@@ -10,8 +10,8 @@ use Rattle.graph.specs.Latches.{latch_words, latch_at}
 use Rattle.output.specs.Steps.{Words}
 use Rattle.renumber.specs.Renumber.{Lists, ends_of, by}
 use Rattle.edge.specs.declared.answer.Given.{Given}
-use Rattle.edge.specs.Answers.{told}
-use Rattle.renumber.specs.declared.Rebuilt.{Rebuilt}
+use Rattle.edge.specs.Answers.{told, value_or}
+use Rattle.renumber.specs.Seen.{Rebuilt}
 
 -- a row that the map has, and whose new edges are words
 pub record Known (map : List ℕ) (i : ℕ) : Type 0 where
@@ -105,11 +105,11 @@ pub record ListsRoom (l : Lists) (at n : Counts) : Type 0 where
   pub edges : at.edges + n.edges ≤ length l.edges
   pub fairness : at.fairness + n.fairness ≤ length l.fairness
 
--- between the check and the writing: the answer, the counts and the marks
+-- between the check and the writing: the answer, the counts and the marks. Where it is refused the counts are those that were given.
 pub record FoundSeen : Type 0 where
   pub given : Given
   pub counts : Counts
   pub marks : List ℕ
 
-abbrev pub found_seen : Rebuilt → List ℕ → FoundSeen
-found_seen r marks = record { given = told r.answer; counts = r.counts; marks = marks }
+abbrev pub found_seen : Counts → Rebuilt → List ℕ → FoundSeen
+found_seen given r marks = record { given = told r; counts = value_or given r; marks = marks }

@@ -1,22 +1,18 @@
 // Writing the lists of a graph anew, every edge and id by a map from old row numbers to new ones.
+// Memory is lent with room beyond the used entries, and a promise speaks of all that is lent: so how many are used stands beside a table.
 #![tactic(auto)]
 
 ghost use Rattle.std.specs.Prelude.{◌≡◌, ◌+◌, ◌*◌, ◌<◌, ◌^◌};
+ghost use Rattle.graph.specs.Graph.{lent_of};
 ghost use Rattle.output.specs.Writing.{written};
-ghost use Rattle.renumber.specs.Renumber.{renamed as renamed_by, renamed_latch, edges_of, ids_of, ends_of, latches_written, lists, renumber, by};
+ghost use Rattle.output.specs.Tables.{lent_in, SameLists};
+ghost use Rattle.renumber.specs.Renumber.{renamed as renamed_by, renamed_latch, edges_of, ids_of, ends_of, latches_written, lists_of, renumber, by};
 ghost use Rattle.renumber.specs.Steps.{Mapped, MappedEdge, MappedLatch, IdsReady, EdgesReady, LatchesReady, EndsReady, ListsReady};
 
-use edge::Answer;
-use graph::Counts;
 use graph::latch::{Latch, latch_at, with_edges, write_latch};
+use graph::{Counts, Graph};
+use output::{Tables, write_each};
 use rows::kinds::NONE;
-
-// What a rebuilding call answers, with the counts of the graph that it wrote. On a refusal the counts are as given, but where the copy of `unroll_to` does not fit all are 0.
-#[derive(Clone, Copy)]
-pub struct Rebuilt {
-    pub answer: Answer,
-    pub counts: Counts,
-}
 
 // The edge to the new number of its row, with its sign. It is not the none word: the words of a gate never are.
 pub fn renamed_edge(e: u32, map: &[u32]) -> u32
@@ -42,18 +38,15 @@ fn write_edges(out: &mut [u32], at: usize, list: &[u32], n: usize, map: &[u32])
     requires { EdgesReady map.now out.old at list.now n }
     ensures { out.new ≡ written out.old at (edges_of (by map.now) list.now) n }
 {
-    for j in 0..n {
-        out[at + j] = renamed(list[j], map);
-    }
+    write_each(out, at, &list[..n], |e| renamed(e, map));
 }
 
+// Writes n ids: the map gives each as it is.
 pub fn write_ids(out: &mut [u32], at: usize, list: &[u32], n: usize, map: &[u32])
     requires { IdsReady map.now out.old at list.now n }
     ensures { out.new ≡ written out.old at (ids_of (by map.now) list.now) n }
 {
-    for j in 0..n {
-        out[at + j] = map[list[j] as usize];
-    }
+    write_each(out, at, &list[..n], |id| map[id as usize]);
 }
 
 // Justice ends, each `by` further.
@@ -61,9 +54,7 @@ pub fn write_ends(out: &mut [u32], at: usize, ends: &[u32], n: usize, by: u32)
     requires { EndsReady by out.old at ends.now n }
     ensures { out.new ≡ written out.old at (ends_of by ends.now) n }
 {
-    for j in 0..n {
-        out[at + j] = ends[j] + by;
-    }
+    write_each(out, at, &ends[..n], |end| end + by);
 }
 
 fn renamed_latch(l: Latch, map: &[u32]) -> Latch
@@ -88,44 +79,32 @@ fn write_latches(out: &mut [u32], at: usize, latches: &[u32], n: usize, map: &[u
     }
 }
 
-// Writes every list but the inputs behind the entries that `at` counts. Justice goes by whole sets.
-pub fn write_lists(
-    latches: &mut [u32],
-    constraints: &mut [u32],
-    bads: &mut [u32],
-    outputs: &mut [u32],
-    ends: &mut [u32],
-    edges: &mut [u32],
-    fairness: &mut [u32],
-    at: Counts,
-    latches2: &[u32],
-    constraints2: &[u32],
-    bads2: &[u32],
-    outputs2: &[u32],
-    ends2: &[u32],
-    edges2: &[u32],
-    fairness2: &[u32],
-    counts: Counts,
-    map: &[u32],
-)
+// Writes every list of the graph but the inputs behind the entries that `at` counts. Justice goes by whole sets.
+pub fn write_lists(tables: &mut Tables, at: Counts, graph: &Graph, map: &[u32])
     requires edges_bound { at.edges < 2 ^ 32 }
-    requires lists_ready { ListsReady map.now (lists latches.old constraints.old bads.old outputs.old ends.old edges.old fairness.old) at (lists latches2.now constraints2.now bads2.now outputs2.now ends2.now edges2.now fairness2.now) counts }
-    ensures { lists latches.new constraints.new bads.new outputs.new ends.new edges.new fairness.new
-        ≡ renumber (by map.now)
-        (lists latches.old constraints.old bads.old outputs.old ends.old edges.old fairness.old) at
-        (lists latches2.now constraints2.now bads2.now outputs2.now ends2.now edges2.now fairness2.now) counts }
+    requires lists_ready { ListsReady map.now (lists_of (lent_in tables.old at)) at (lists_of (lent_of graph.now)) graph.now.counts }
+    ensures same_lists { SameLists tables.new tables.old }
+    ensures leaves_kept { (tables.new.rows.now ≡ tables.old.rows.now) × (tables.new.inputs.now ≡ tables.old.inputs.now) }
+    ensures lists_written { lists_of (lent_in tables.new at) ≡ renumber (by map.now) (lists_of (lent_in tables.old at)) at (lists_of (lent_of graph.now)) graph.now.counts }
 {
-    write_latches(latches, at.latches, latches2, counts.latches, map);
+    let n = graph.counts;
+    write_latches(tables.latches, at.latches, graph.latches, n.latches, map);
     write_edges(
-        constraints,
+        tables.constraints,
         at.constraints,
-        constraints2,
-        counts.constraints,
+        graph.constraints,
+        n.constraints,
         map,
     );
-    write_edges(bads, at.bads, bads2, counts.bads, map);
-    write_edges(outputs, at.outputs, outputs2, counts.outputs, map);
-    write_ends(ends, at.sets, ends2, counts.sets, at.edges as u32);
-    write_edges(edges, at.edges, edges2, counts.edges, map);
-    write_edges(fairness, at.fairness, fairness2, counts.fairness, map);
+    write_edges(tables.bads, at.bads, graph.bads, n.bads, map);
+    write_edges(tables.outputs, at.outputs, graph.outputs, n.outputs, map);
+    write_ends(tables.ends, at.sets, graph.ends, n.sets, at.edges as u32);
+    write_edges(tables.edges, at.edges, graph.edges, n.edges, map);
+    write_edges(
+        tables.fairness,
+        at.fairness,
+        graph.fairness,
+        n.fairness,
+        map,
+    );
 }

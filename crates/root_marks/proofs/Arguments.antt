@@ -1,21 +1,18 @@
 -- Laws of a list of arguments, and of the answers of a call that takes one.
 -- Assumes nothing.
-use Prim.Native.Nat.{ℕ, zero, suc, ◌+◌, ◌≤◌, ◌<◌}
+use Prim.Native.Nat.{ℕ, zero, suc, ◌<◌}
 use native.Mathlib.Omega.{arith}
-use native.Mathlib.Numerals.{add-one}
-use mathlib.Core.Path.{◌≡◌, refl, sym, ap, ◌∙◌}
-use mathlib.Core.Bool.{Bool, true, false, cond, not, ◌&&◌}
+use mathlib.Core.Path.{◌≡◌, refl, ap}
+use mathlib.Core.Bool.{Bool, true, false, cond, ◌&&◌}
 use mathlib.Core.List.{List, [], ◌∷◌}
-use lib.ListN.{length, get_or, drop, drop_of_length-le}
-use lib.Seq.{drop-cons}
-use lib.Dec.{eqb}
-use borrow.Author.Tests.{eqb-true}
-use Rattle.edge.specs.declared.answer.Answer.{Answer}
-use Rattle.edge.specs.declared.answer.Answer.TheVariants.{BadSizes, BadArgument}
-use Rattle.edge.specs.declared.answer.Given.{Given}
+use lib.ListN.{length, get_or}
+use Rattle.std.specs.Prelude.{Result, Ok, Err}
+use Rattle.std.specs.List.{list_all}
+use Rattle.edge.specs.declared.answer.Refusal.{Refusal}
+use Rattle.edge.specs.declared.answer.Refusal.TheVariants.{BadSizes}
 use Rattle.edge.specs.Answers.{done, bad_argument, told, or_else}
-use Rattle.edge.proofs.Tests.{both, both_true, false_true}
-use Rattle.edge.proofs.Answers.{none_of_two, goes_past}
+use Rattle.edge.proofs.Tests.{both, both_true}
+use Rattle.edge.proofs.Answers.{none_of_two, goes_past, not_done}
 use Rattle.graph.specs.Graph.{Lent, Sized}
 use Rattle.graph.specs.Check.{cleared, CheckSeen, check_seen, check_call}
 use Rattle.graph.specs.WellFormed.{WellFormed}
@@ -24,23 +21,12 @@ use Rattle.graph.proofs.WellFormed.{exact}
 use Rattle.graph.proofs.Exactly.{argument_answers, check_answers, names_refused, own_answers}
 use Rattle.root_marks.specs.Arguments.{every, args_call}
 
--- ---- every entry of a list, by what is left of it
-module _ (good : ℕ → Bool) (xs : List ℕ) (i : ℕ) where
-  pub every_end : length xs ≤ i → every good (drop i xs) ≡ true
-  unfolding every
-  every_end l = rw drop_of_length-le
-
-  module _ (l : i < length xs) where
-    cons : drop i xs ≡ get_or xs i 0 ∷ drop (i + 1) xs
-    cons = rw (add-one, drop-cons xs i 0)
-
-    pub every_stops : good (get_or xs i 0) ≡ false → every good (drop i xs) ≡ false
-    unfolding every
-    every_stops h = rw (cons, h)
-
-    pub every_goes : good (get_or xs i 0) ≡ true → every good (drop i xs) ≡ every good (drop (i + 1) xs)
-    unfolding every
-    every_goes h = rw (cons, h)
+-- ---- every entry of a list
+-- the library asks the same of a list
+pub every_all : (good : ℕ → Bool) (xs : List ℕ) → list_all good xs ≡ every good xs
+unfolding every
+every_all good [] = refl
+every_all good (x ∷ xs) = ap (λ (b : Bool). good x && b) (every_all good xs)
 
 -- each entry by its place
 pub every_at : (good : ℕ → Bool) (xs : List ℕ) → every good xs ≡ true → (k : ℕ) → k < length xs → good (get_or xs k 0) ≡ true
@@ -63,7 +49,7 @@ pub record Accepted (room good : Bool) (g : Lent) (marks : ℕ) : Type 0 where
   pub well_formed : WellFormed g
 
 module _ (room good : Bool) (g : Lent) (marks : List ℕ) where
-  pub args_room : room ≡ false → check_seen BadSizes marks ≡ args_call room good g marks
+  pub args_room : room ≡ false → check_seen (Err BadSizes) marks ≡ args_call room good g marks
   unfolding args_call
   args_room e = rw e
 
@@ -71,9 +57,10 @@ module _ (room good : Bool) (g : Lent) (marks : List ℕ) where
   unfolding args_call
   args_accepted = go room good refl refl
     where
-      go : (r d : Bool) → room ≡ r → good ≡ d
-          → (cond {A = CheckSeen} r (record { given = or_else (check_call g marks).given (cond d done bad_argument); marks = (check_call g marks).marks }) (check_seen BadSizes marks)).given.number ≡ 0
-          → Accepted room good g (length marks)
+      go :
+          (r d : Bool) → room ≡ r → good ≡ d →
+          (cond {A = CheckSeen} r (record { given = or_else (check_call g marks).given (cond d done bad_argument); marks = (check_call g marks).marks })
+          (check_seen (Err BadSizes) marks)).given.number ≡ 0 → Accepted room good g (length marks)
       go true true e f z =
           let t = (exact g marks).accepted (none_of_two (check_call g marks).given done z).0 in
           record { roomy = e; all_good = f; sized = t.0; well_formed = t.1 }
@@ -94,7 +81,7 @@ module _ (room good : Bool) (g : Lent) (marks : List ℕ) where
       go :
           (r : Bool) → room ≡ r →
           ((cond {A = CheckSeen} r (record { given = or_else (check_call g marks).given (cond good done bad_argument); marks = (check_call g marks).marks })
-          (check_seen BadSizes marks)).given.number ≡ 1 → ⊥) → room ≡ true
+          (check_seen (Err BadSizes) marks)).given.number ≡ 1 → ⊥) → room ≡ true
       go true e h = e
       go false e h = absurd (h refl)
 
@@ -112,30 +99,17 @@ module _ (room good : Bool) (g : Lent) (marks : List ℕ) where
   args_cleared = args_answers.zeroed
 
   -- ---- the graph's check is made, and then the arguments are looked at
-  module _ (e : room ≡ true) (a : Answer) (after : List ℕ) (seen : check_seen a after ≡ check_call g marks) where
+  module _ (e : room ≡ true) (a : Result Unit Refusal) (after : List ℕ) (seen : check_seen a after ≡ check_call g marks) where
     given : told a ≡ (check_call g marks).given
     given = ap (λ (s : CheckSeen). s.given) seen
 
     kept : after ≡ (check_call g marks).marks
     kept = ap (λ (s : CheckSeen). s.marks) seen
 
-    pub args_bad : eqb (told a).number 0 && not good ≡ true → check_seen BadArgument after ≡ args_call room good g marks
+    pub args_refused : (f : Refusal) → a ≡ Err f → check_seen (Err f) after ≡ args_call room good g marks
     unfolding args_call or_else
-    args_bad h = rw (e, ← given, ← kept) (go (eqb (told a).number 0) good h)
-      where
-        go : (d o : Bool) → d && not o ≡ true → check_seen BadArgument after ≡ record { given = cond d (cond o done bad_argument) (told a); marks = after }
-        go true false h = refl
-        go true true h = absurd (false_true h)
-        go false o h = absurd (false_true h)
+    args_refused f is = rw (e, ← given, ← kept, is, not_done f) refl
 
-    pub args_told : eqb (told a).number 0 && not good ≡ false → check_seen a after ≡ args_call room good g marks
+    pub args_done : a ≡ Ok tt → (r : Result Unit Refusal) → told r ≡ cond good done bad_argument → check_seen r after ≡ args_call room good g marks
     unfolding args_call or_else
-    args_told h = rw (e, ← given, ← kept) (ap (λ (t : Given). record { given = t; marks = after }) (go (eqb (told a).number 0) good refl h))
-      where
-        is_done : (check_call g marks).given.number ≡ 0 → (check_call g marks).given ≡ done
-        is_done z = let t = (exact g marks).accepted z in (exact g marks).accepts t.0 t.1
-
-        go : (d o : Bool) → eqb (told a).number 0 ≡ d → d && not o ≡ false → told a ≡ cond d (cond o done bad_argument) (told a)
-        go true true q h = given ∙ is_done (ap (λ (t : Given). t.number) (sym given) ∙ eqb-true (told a).number 0 q)
-        go true false q h = absurd (false_true (sym h))
-        go false o q h = refl
+    args_done is r t = rw (e, ← given, ← kept, is, ← t) refl

@@ -1,7 +1,6 @@
 -- What only the proofs need: what a step asks of its caller, and what its functions count on the way.
 -- Assumes nothing.
-use Rattle.std.specs.Prelude.{ℕ, ◌*◌, ◌≤◌, ◌≡◌, true, List, length}
-use Rattle.graph.specs.declared.Counts.{Counts}
+use Rattle.std.specs.Prelude.{◌*◌, ◌≤◌, ◌≡◌, true, length}
 use Rattle.graph.specs.Latches.{latch_words}
 use Rattle.graph.specs.Leaves.{used_edge}
 use Rattle.graph.specs.Graph.{Lent}
@@ -9,15 +8,15 @@ use Rattle.root_marks.specs.Arguments.{every}
 use Rattle.root_marks.specs.Roots.{roots_of}
 
 -- no count is above its list
-pub record RootsFit (latches constraints bads outputs edges fairness : List ℕ) (n : Counts) : Type 0 where
-  pub latches_fit : latch_words * n.latches ≤ length latches
-  pub constraints_fit : n.constraints ≤ length constraints
-  pub bads_fit : n.bads ≤ length bads
-  pub outputs_fit : n.outputs ≤ length outputs
-  pub edges_fit : n.edges ≤ length edges
-  pub fairness_fit : n.fairness ≤ length fairness
+pub record RootsFit (g : Lent) : Type 0 where
+  pub latches_fit : latch_words * g.counts.latches ≤ length g.latches
+  pub constraints_fit : g.counts.constraints ≤ length g.constraints
+  pub bads_fit : g.counts.bads ≤ length g.bads
+  pub outputs_fit : g.counts.outputs ≤ length g.outputs
+  pub edges_fit : g.counts.edges ≤ length g.edges
+  pub fairness_fit : g.counts.fairness ≤ length g.fairness
 
 -- what a well-formed graph's roots are known for
 pub record RootsKnown (g : Lent) : Type 0 where
-  pub fit : RootsFit g.latches g.constraints g.bads g.outputs g.edges g.fairness g.counts
+  pub fit : RootsFit g
   pub used : every (used_edge g.counts.rows) (roots_of g) ≡ true

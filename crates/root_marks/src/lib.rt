@@ -1,29 +1,35 @@
-// What a call on a whole graph starts from: a list of edges given as an argument, or the graph's own roots.
+// What a call on a whole graph starts from: a list of edges given as an argument, or the graph's own roots; and what it answers before it does its work.
+// Memory is lent with room beyond the used entries, and a promise speaks of all that is lent: so how many are used stands beside a table.
 #![tactic(auto)]
 
-ghost use Rattle.std.specs.Prelude.{◌≡◌, true, ◌*◌, ◌≤◌, length, take};
+ghost use Rattle.std.specs.Prelude.{◌≡◌, true, ◌*◌, ◌≤◌, length};
 ghost use Rattle.graph.specs.Leaves.{used_edge};
 ghost use Rattle.graph.specs.Latches.{latch_words};
-ghost use Rattle.root_marks.specs.Arguments.{every};
+ghost use Rattle.graph.specs.Graph.{lent_of};
+ghost use Rattle.graph.specs.Check.{check_seen};
+ghost use Rattle.root_marks.specs.Arguments.{every, args_call};
 ghost use Rattle.root_marks.specs.Marking.{mark_edges};
-ghost use Rattle.root_marks.specs.Roots.{latch_root, latch_roots, roots_in};
+ghost use Rattle.root_marks.specs.Roots.{latch_root, latch_roots, roots_of};
 ghost use Rattle.root_marks.specs.Steps.{RootsFit};
 
-use graph::Counts;
+use edge::Refusal;
+use graph::Graph;
 use graph::latch::{Latch, latch_at};
-use graph::lists::is_used;
 use rows::kinds::NONE;
 
-// Is every edge one to a used row?
-pub fn all_used(edges: &[u32], used: usize) -> bool
-    ensures { result ≡ every (used_edge used) edges.now }
+// Answers 1 to 4 of a call on a whole graph: `room` says that the call's own slices are right, and `good` that no argument is wrong.
+pub fn asked(graph: &Graph, room: bool, good: bool, marks: &mut [u32]) -> Result<(), Refusal>
+    ensures { check_seen result marks.new ≡ args_call room good (lent_of graph.now) marks.old }
 {
-    for i in 0..edges.len() {
-        if !is_used(edges[i], used) {
-            return false;
-        }
+    if !room {
+        return Err(Refusal::BadSizes);
     }
-    true
+    graph.check(marks)?;
+    if good {
+        Ok(())
+    } else {
+        Err(Refusal::BadArgument)
+    }
 }
 
 // Marks the rows of the edges.
@@ -31,19 +37,10 @@ pub fn mark_edges(edges: &[u32], marks: &mut [u32])
     requires { every (used_edge (length marks.old)) edges.now ≡ true }
     ensures { marks.new ≡ mark_edges edges.now marks.old }
 {
-    for i in 0..edges.len() {
-        let x = (edges[i] / 2) as usize;
+    for e in edges {
+        let x = (e / 2) as usize;
         marks[x] = 1;
     }
-}
-
-// The same of the first n entries of a list.
-fn mark_list(list: &[u32], n: usize, marks: &mut [u32])
-    requires n_in_bounds { n ≤ length list.now }
-    requires list_value { every (used_edge (length marks.old)) (take n list.now) ≡ true }
-    ensures { marks.new ≡ mark_edges (take n list.now) marks.old }
-{
-    mark_edges(&list[..n], marks);
 }
 
 // Marks the rows of a latch's next, and of its init where it has one.
@@ -72,25 +69,16 @@ fn mark_latches(latches: &[u32], n: usize, marks: &mut [u32])
 }
 
 // Marks the rows of the graph's own roots.
-pub fn mark_roots(
-    latches: &[u32],
-    constraints: &[u32],
-    bads: &[u32],
-    outputs: &[u32],
-    edges: &[u32],
-    fairness: &[u32],
-    counts: Counts,
-    marks: &mut [u32],
-)
-    requires roots_fit { RootsFit latches.now constraints.now bads.now outputs.now edges.now fairness.now counts }
-    requires counts_value { every (used_edge (length marks.old)) (roots_in latches.now constraints.now bads.now outputs.now edges.now fairness.now counts) ≡ true }
-    ensures { marks.new
-        ≡ mark_edges (roots_in latches.now constraints.now bads.now outputs.now edges.now fairness.now counts) marks.old }
+pub fn mark_roots(graph: &Graph, marks: &mut [u32])
+    requires roots_fit { RootsFit (lent_of graph.now) }
+    requires roots_used { every (used_edge (length marks.old)) (roots_of (lent_of graph.now)) ≡ true }
+    ensures { marks.new ≡ mark_edges (roots_of (lent_of graph.now)) marks.old }
 {
-    mark_latches(latches, counts.latches, marks);
-    mark_list(constraints, counts.constraints, marks);
-    mark_list(bads, counts.bads, marks);
-    mark_list(outputs, counts.outputs, marks);
-    mark_list(edges, counts.edges, marks);
-    mark_list(fairness, counts.fairness, marks);
+    let counts = graph.counts;
+    mark_latches(graph.latches, counts.latches, marks);
+    mark_edges(&graph.constraints[..counts.constraints], marks);
+    mark_edges(&graph.bads[..counts.bads], marks);
+    mark_edges(&graph.outputs[..counts.outputs], marks);
+    mark_edges(&graph.edges[..counts.edges], marks);
+    mark_edges(&graph.fairness[..counts.fairness], marks);
 }

@@ -2,20 +2,18 @@
 -- Assumes nothing.
 use Prim.Native.Nat.{ℕ, ◌+◌, ◌*◌, ◌/◌, ◌≤◌, ◌<◌}
 use native.Mathlib.Omega.{arith}
-use mathlib.Core.Path.{◌≡◌, refl, sym, ap, ◌∙◌}
+use mathlib.Core.Path.{◌≡◌, refl, sym, ◌∙◌}
 use mathlib.Core.List.{List}
-use mathlib.Core.Bool.{Bool, true, false, cond, not, ◌&&◌, ◌||◌}
+use mathlib.Core.Bool.{Bool, true, false, cond, ◌&&◌, ◌||◌}
 use lib.ListN.{length}
-use lib.Dec.{ltb, leb, eqb}
-use borrow.Author.Tests.{lt-ltb, le-ltb, ltb-true, ltb-false, leb-true, leb-false, eqb-true}
-use Rattle.edge.specs.declared.BoolAnswer.{BoolAnswer}
-use Rattle.edge.specs.Answers.{done, bad_sizes, bad_argument, told, or_else}
-use Rattle.edge.specs.Edges.{BoolSeen, bool_seen}
-use Rattle.edge.proofs.Tests.{both, false_true}
+use lib.Dec.{ltb, leb}
+use borrow.Author.Tests.{lt-ltb, le-ltb, ltb-true, ltb-false, leb-true, leb-false}
+use Rattle.edge.specs.Answers.{done, bad_sizes, bad_argument}
+use Rattle.edge.proofs.Tests.{both}
 use Rattle.edge.proofs.Answers.{none_of_two}
 use Rattle.rows.specs.Sizes.{fits, Fit, rows_lent, rows_fit, RowsFit, max_rows}
-use Rattle.rows.specs.Rows.{is_gate, larger, gate_at}
-use Rattle.rows.specs.Reading.{row_read, gate_read, if_done, is_and_call}
+use Rattle.rows.specs.Rows.{is_gate, larger}
+use Rattle.rows.specs.Reading.{row_read, gate_read}
 
 -- ---- sizes
 pub fit : (count room limit : ℕ) → fits count room limit ≡ true → Fit count room limit
@@ -87,43 +85,6 @@ row_there rows used id = go (rows_fit used rows) (ltb id used) refl refl
     go true false e f z = absurd (omega arith)
     go false t e f z = absurd (omega arith)
 
-row_done : (rows : List ℕ) (used id : ℕ) → (row_read rows used id).number ≡ 0 → row_read rows used id ≡ done
-unfolding row_read
-row_done rows used id = go (rows_fit used rows) (ltb id used)
-  where
-    go : (s t : Bool) → (cond s (cond t done bad_argument) bad_sizes).number ≡ 0 → cond s (cond t done bad_argument) bad_sizes ≡ done
-    go true true z = refl
-    go true false z = absurd (omega arith)
-    go false t z = absurd (omega arith)
-
 pub gate_there : (rows : List ℕ) (used id : ℕ) → (gate_read rows used id).number ≡ 0 → 2 * id + 1 < length rows
 unfolding gate_read
 gate_there rows used id z = row_there rows used id (none_of_two (row_read rows used id) _ z).0
-
--- ---- a gate is read where the row is, and is one
-module _ (rows : List ℕ) (used id : ℕ) (r : BoolAnswer) (seen : bool_seen r ≡ is_and_call rows used id) where
-  row_answer : told r.answer ≡ row_read rows used id
-  unfolding is_and_call
-  row_answer = ap (λ (s : BoolSeen). s.given) seen
-
-  row_value_lem : r.value ≡ if_done (row_read rows used id) (gate_at rows id) false
-  unfolding is_and_call
-  row_value_lem = ap (λ (s : BoolSeen). s.value) seen
-
-  pub no_gate : eqb (told r.answer).number 0 && not r.value ≡ true → bad_argument ≡ gate_read rows used id
-  unfolding gate_read or_else
-  no_gate h = go (eqb (row_read rows used id).number 0) (gate_at rows id) refl (rw (row_answer, row_value_lem) at h)
-    where
-      go : (d g : Bool) → eqb (row_read rows used id).number 0 ≡ d → d && not (cond d g false) ≡ true → bad_argument ≡ cond d (cond g done bad_argument) (row_read rows used id)
-      go true false e h = refl
-      go true true e h = let z : false ≡ true = h in absurd (false_true z)
-      go false g e h = let z : false ≡ true = h in absurd (false_true z)
-
-  pub gate_or_refused : eqb (told r.answer).number 0 && not r.value ≡ false → told r.answer ≡ gate_read rows used id
-  unfolding gate_read or_else
-  gate_or_refused h = row_answer ∙ go (eqb (row_read rows used id).number 0) (gate_at rows id) refl (rw (row_answer, row_value_lem) at h)
-    where
-      go : (d g : Bool) → eqb (row_read rows used id).number 0 ≡ d → d && not (cond d g false) ≡ false → row_read rows used id ≡ cond d (cond g done bad_argument) (row_read rows used id)
-      go true true e h = row_done rows used id (eqb-true _ _ e)
-      go true false e h = let z : true ≡ false = h in absurd (false_true (sym z))
-      go false g e h = refl

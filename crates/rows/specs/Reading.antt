@@ -1,13 +1,11 @@
 -- Reading one row: 1 for what is lent, then 4 for an id not used, then 4 for a row that is no gate. No other row is looked at.
 -- Assumes nothing.
-use Rattle.std.specs.Prelude.{ℕ, List, false, cond, ◌≡◌, ltb, eqb}
+use Rattle.std.specs.Prelude.{ℕ, Bool, List, false, cond, ◌≡◌, ltb, eqb, Result}
 use Rattle.std.proofs.Common.{ap}
 use Rattle.edge.specs.declared.answer.Given.{Given}
-use Rattle.edge.specs.Answers.{done, bad_sizes, bad_argument, told, told_injective, or_else, determined}
-use Rattle.edge.specs.declared.BoolAnswer.{BoolAnswer}
-use Rattle.edge.specs.declared.EdgeAnswer.{EdgeAnswer}
+use Rattle.edge.specs.declared.answer.Refusal.{Refusal}
+use Rattle.edge.specs.Answers.{done, bad_sizes, bad_argument, told, value_or, answer_known, or_else, determined}
 use Rattle.edge.specs.Edges.{BoolSeen, bool_seen, bool_determined, EdgeSeen, edge_seen, edge_determined}
-use Rattle.rows.specs.declared.reading.Fanins.{Fanins}
 use Rattle.rows.specs.Sizes.{rows_fit}
 use Rattle.rows.specs.Rows.{word0, word1, leaf_at, gate_at}
 
@@ -34,8 +32,8 @@ pub record FaninSeen : Type 0 where
   pub first : ℕ
   pub second : ℕ
 
-abbrev pub fanin_seen : Fanins → FaninSeen
-fanin_seen r = record { given = told r.answer; first = r.first; second = r.second }
+abbrev pub fanin_seen : Result (ℕ × ℕ) Refusal → FaninSeen
+fanin_seen r = record { given = told r; first = (value_or (0, 0) r).0; second = (value_or (0, 0) r).1 }
 
 unfoldable pub fanin_call : List ℕ → ℕ → ℕ → FaninSeen
 fanin_call rows used id =
@@ -59,24 +57,19 @@ abbrev pub fanin1_call : List ℕ → ℕ → ℕ → EdgeSeen
 fanin1_call rows used id = second_seen (fanin_call rows used id)
 
 -- ---- any two results that a promise allows are equal, call by call
-pub is_and_determined : (rows : List ℕ) (used id : ℕ) (r s : BoolAnswer) → bool_seen r ≡ is_and_call rows used id → bool_seen s ≡ is_and_call rows used id
-    → (r.answer ≡ s.answer) × (r.value ≡ s.value)
+pub is_and_determined : (rows : List ℕ) (used id : ℕ) (r s : Result Bool Refusal) → bool_seen r ≡ is_and_call rows used id → bool_seen s ≡ is_and_call rows used id → r ≡ s
 is_and_determined rows used = bool_determined (is_and_call rows used)
 
-pub is_leaf_determined : (rows : List ℕ) (used id : ℕ) (r s : BoolAnswer) → bool_seen r ≡ is_leaf_call rows used id → bool_seen s ≡ is_leaf_call rows used id
-    → (r.answer ≡ s.answer) × (r.value ≡ s.value)
+pub is_leaf_determined : (rows : List ℕ) (used id : ℕ) (r s : Result Bool Refusal) → bool_seen r ≡ is_leaf_call rows used id → bool_seen s ≡ is_leaf_call rows used id → r ≡ s
 is_leaf_determined rows used = bool_determined (is_leaf_call rows used)
 
-pub fanin0_determined : (rows : List ℕ) (used id : ℕ) (r s : EdgeAnswer) → edge_seen r ≡ fanin0_call rows used id → edge_seen s ≡ fanin0_call rows used id
-    → (r.answer ≡ s.answer) × (r.edge ≡ s.edge)
+pub fanin0_determined : (rows : List ℕ) (used id : ℕ) (r s : Result ℕ Refusal) → edge_seen r ≡ fanin0_call rows used id → edge_seen s ≡ fanin0_call rows used id → r ≡ s
 fanin0_determined rows used = edge_determined (fanin0_call rows used)
 
-pub fanin1_determined : (rows : List ℕ) (used id : ℕ) (r s : EdgeAnswer) → edge_seen r ≡ fanin1_call rows used id → edge_seen s ≡ fanin1_call rows used id
-    → (r.answer ≡ s.answer) × (r.edge ≡ s.edge)
+pub fanin1_determined : (rows : List ℕ) (used id : ℕ) (r s : Result ℕ Refusal) → edge_seen r ≡ fanin1_call rows used id → edge_seen s ≡ fanin1_call rows used id → r ≡ s
 fanin1_determined rows used = edge_determined (fanin1_call rows used)
 
-pub fanin_determined : (rows : List ℕ) (used id : ℕ) (r s : Fanins) → fanin_seen r ≡ fanin_call rows used id → fanin_seen s ≡ fanin_call rows used id
-    → (r.answer ≡ s.answer) × (r.first ≡ s.first) × (r.second ≡ s.second)
+pub fanin_determined : (rows : List ℕ) (used id : ℕ) (r s : Result (ℕ × ℕ) Refusal) → fanin_seen r ≡ fanin_call rows used id → fanin_seen s ≡ fanin_call rows used id → r ≡ s
 fanin_determined rows used id r s p q =
     let t = determined (fanin_call rows used) id (fanin_seen r) (fanin_seen s) p q in
-    (told_injective r.answer s.answer (ap (λ (x : FaninSeen). x.given) t), ap (λ (x : FaninSeen). x.first) t, ap (λ (x : FaninSeen). x.second) t)
+    answer_known (0, 0) r s (ap (λ (x : FaninSeen). x.given) t) (ap (λ (x : FaninSeen). (x.first, x.second)) t)

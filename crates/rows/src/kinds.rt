@@ -29,7 +29,7 @@ pub fn is_gate(i: usize, a: u32, b: u32) -> bool
     (((a / 2) as usize) < i) & (((b / 2) as usize) < i)
 }
 
-// The larger of two words.
+// The larger of two words. The library's `max` is no plainer: it is promised by an order, and this by the numbers.
 fn larger(a: u32, b: u32) -> u32
     ensures { result ≡ larger a b }
 {

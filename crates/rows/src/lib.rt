@@ -5,4 +5,4 @@ pub mod kinds;
 mod reading;
 pub mod sizes;
 
-pub use reading::{Fanins, fanin, fanin0, fanin1, is_and, is_leaf};
+pub use reading::{fanin, fanin0, fanin1, is_and, is_leaf};

@@ -3,6 +3,7 @@
 
 ghost use Rattle.std.specs.Prelude.{◌≡◌, true, false, []};
 ghost use Rattle.edge.specs.Answers.{told as answer_told};
+ghost use Rattle.build_leaves.specs.Calls.{built_or, added_or};
 ghost use Rattle.build_leaves.specs.Leaves.{new_call, leaf_call, new_input_call, add_input_call};
 ghost use Rattle.build_latches.specs.Latches.{new_latch_call, add_latch_call};
 ghost use Rattle.build_nodes.specs.Nodes.{list_call, pair_call, imply_call, eq_call};
@@ -11,35 +12,41 @@ ghost use Rattle.sulandiro_words.specs.Told.{told_words};
 ghost use Rattle.sulandiro_build.specs.Made.{made_words, made_seen, told_made};
 
 use build_leaves::{Added, Built};
-use edge::Answer;
-use graph::Counts;
+use edge::Refusal;
+use graph::{Counts, no_counts};
 use sulandiro_words::{counts_in, put, tell, tell_counts};
 
 // Writes an answer, the counts, and behind them the edge or the id that was made.
-fn tell_made(told: &mut [u64], a: Answer, n: Counts, made: u32)
-    ensures { told.new ≡ told_words told.old (answer_told a) (made_words n made) }
+fn tell_made(told: &mut [u64], answer: Result<(), Refusal>, n: Counts, made: u32)
+    ensures { told.new ≡ told_words told.old (answer_told answer) (made_words n made) }
 {
-    tell(told, a);
+    tell(told, answer);
     tell_counts(told, n);
     put(told, 13, made as u64);
 }
 
-fn tell_built(told: &mut [u64], r: Built)
-    ensures { told.new ≡ told_words told.old (answer_told r.answer) (made_words r.counts r.edge) }
+// The edge that was built. On a refusal the counts are those that were given, and it is 0.
+fn tell_built(told: &mut [u64], r: Result<Built, Refusal>, given: Counts)
+    ensures { told.new ≡ told_words told.old (answer_told r) (made_words (built_or given r).counts (built_or given r).edge) }
 {
-    let a = r.answer;
-    let n = r.counts;
-    let e = r.edge;
-    tell_made(told, a, n, e);
+    let nothing = Built {
+        counts: given,
+        edge: 0,
+    };
+    let Built { counts, edge } = r.unwrap_or(nothing);
+    tell_made(told, r.map(|_| ()), counts, edge);
 }
 
-fn tell_added(told: &mut [u64], r: Added)
-    ensures { told.new ≡ told_words told.old (answer_told r.answer) (made_words r.counts r.id) }
+// The same of the leaf that was made or listed: an id, where that is an edge.
+fn tell_added(told: &mut [u64], r: Result<Added, Refusal>, given: Counts)
+    ensures { told.new ≡ told_words told.old (answer_told r) (made_words (added_or given r).counts (added_or given r).id) }
 {
-    let a = r.answer;
-    let n = r.counts;
-    let id = r.id;
-    tell_made(told, a, n, id);
+    let nothing = Added {
+        counts: given,
+        id: 0,
+    };
+    let Added { counts, id } = r.unwrap_or(nothing);
+    tell_made(told, r.map(|_| ()), counts, id);
 }
 
 // `build_leaves::new`.
@@ -49,7 +56,7 @@ pub extern "C" fn sulandiro_new(rows: &mut [u32], told: &mut [u64])
         ≡ told_made (new_call rows.old) told.old }
 {
     let r = build_leaves::new(rows);
-    tell_built(told, r);
+    tell_built(told, r, no_counts());
 }
 
 // `build_leaves::new_leaf_node`.
@@ -60,7 +67,7 @@ pub extern "C" fn sulandiro_new_leaf_node(rows: &mut [u32], counts: &[u64], told
 {
     let n = counts_in(counts);
     let r = build_leaves::new_leaf_node(rows, n);
-    tell_added(told, r);
+    tell_added(told, r, n);
 }
 
 // `build_leaves::new_input`.
@@ -76,7 +83,7 @@ pub extern "C" fn sulandiro_new_input(
 {
     let n = counts_in(counts);
     let r = build_leaves::new_input(rows, inputs, n);
-    tell_added(told, r);
+    tell_added(told, r, n);
 }
 
 // `build_leaves::add_input`.
@@ -93,7 +100,7 @@ pub extern "C" fn sulandiro_add_input(
 {
     let n = counts_in(counts);
     let r = build_leaves::add_input(rows, inputs, n, input);
-    tell_added(told, r);
+    tell_added(told, r, n);
 }
 
 // `build_latches::new_latch`.
@@ -111,7 +118,7 @@ pub extern "C" fn sulandiro_new_latch(
 {
     let n = counts_in(counts);
     let r = build_latches::new_latch(rows, latches, n, next, init);
-    tell_added(told, r);
+    tell_added(told, r, n);
 }
 
 // `build_latches::add_latch`.
@@ -130,7 +137,7 @@ pub extern "C" fn sulandiro_add_latch(
 {
     let n = counts_in(counts);
     let r = build_latches::add_latch(rows, latches, n, input, next, init);
-    tell_added(told, r);
+    tell_added(told, r, n);
 }
 
 // `build_nodes::trivial_new_and_node`.
@@ -147,7 +154,7 @@ pub extern "C" fn sulandiro_trivial_new_and_node(
 {
     let n = counts_in(counts);
     let r = build_nodes::trivial_new_and_node(rows, n, a, b);
-    tell_built(told, r);
+    tell_built(told, r, n);
 }
 
 // `build_nodes::new_and_node`.
@@ -164,7 +171,7 @@ pub extern "C" fn sulandiro_new_and_node(
 {
     let n = counts_in(counts);
     let r = build_nodes::new_and_node(rows, n, a, b);
-    tell_built(told, r);
+    tell_built(told, r, n);
 }
 
 // `build_nodes::trivial_new_or_node`.
@@ -181,7 +188,7 @@ pub extern "C" fn sulandiro_trivial_new_or_node(
 {
     let n = counts_in(counts);
     let r = build_nodes::trivial_new_or_node(rows, n, a, b);
-    tell_built(told, r);
+    tell_built(told, r, n);
 }
 
 // `build_nodes::new_or_node`.
@@ -198,7 +205,7 @@ pub extern "C" fn sulandiro_new_or_node(
 {
     let n = counts_in(counts);
     let r = build_nodes::new_or_node(rows, n, a, b);
-    tell_built(told, r);
+    tell_built(told, r, n);
 }
 
 // `build_nodes::new_imply_node`.
@@ -215,7 +222,7 @@ pub extern "C" fn sulandiro_new_imply_node(
 {
     let n = counts_in(counts);
     let r = build_nodes::new_imply_node(rows, n, a, b);
-    tell_built(told, r);
+    tell_built(told, r, n);
 }
 
 // `build_nodes::trivial_new_ands_node`.
@@ -231,7 +238,7 @@ pub extern "C" fn sulandiro_trivial_new_ands_node(
 {
     let n = counts_in(counts);
     let r = build_nodes::trivial_new_ands_node(rows, n, edges);
-    tell_built(told, r);
+    tell_built(told, r, n);
 }
 
 // `build_nodes::new_ands_node`.
@@ -247,7 +254,7 @@ pub extern "C" fn sulandiro_new_ands_node(
 {
     let n = counts_in(counts);
     let r = build_nodes::new_ands_node(rows, n, edges);
-    tell_built(told, r);
+    tell_built(told, r, n);
 }
 
 // `build_nodes::trivial_new_ors_node`.
@@ -263,7 +270,7 @@ pub extern "C" fn sulandiro_trivial_new_ors_node(
 {
     let n = counts_in(counts);
     let r = build_nodes::trivial_new_ors_node(rows, n, edges);
-    tell_built(told, r);
+    tell_built(told, r, n);
 }
 
 // `build_nodes::new_ors_node`.
@@ -279,7 +286,7 @@ pub extern "C" fn sulandiro_new_ors_node(
 {
     let n = counts_in(counts);
     let r = build_nodes::new_ors_node(rows, n, edges);
-    tell_built(told, r);
+    tell_built(told, r, n);
 }
 
 // `build_nodes::new_eq_node`.
@@ -296,5 +303,5 @@ pub extern "C" fn sulandiro_new_eq_node(
 {
     let n = counts_in(counts);
     let r = build_nodes::new_eq_node(rows, n, a, b);
-    tell_built(told, r);
+    tell_built(told, r, n);
 }

@@ -1,27 +1,24 @@
 -- What a caller in C is told of an edge or a row: the answer, then what comes with it.
 -- Assumes nothing.
-use Rattle.std.specs.Prelude.{ℕ, cond, List, [], ◌∷◌, ◌≡◌}
+use Rattle.std.specs.Prelude.{ℕ, Bool, cond, List, [], ◌∷◌, ◌≡◌, Option, Some, None}
 use Rattle.edge.specs.Answers.{determined}
 use Rattle.edge.specs.Edges.{EdgeSeen, BoolSeen, which_constant}
-use Rattle.edge.specs.declared.MaybeConstant.{MaybeConstant}
-use Rattle.edge.specs.declared.MaybeConstant.TheVariants.{False, True, Neither}
 use Rattle.rows.specs.Reading.{FaninSeen}
 use Rattle.sulandiro_words.specs.Told.{told_words}
 
-unfoldable pub told_edge : EdgeSeen → List ℕ → List ℕ
+abbrev pub told_edge : EdgeSeen → List ℕ → List ℕ
 told_edge s told = told_words told s.given (s.edge ∷ [])
 
 -- false is 0 and true is 1
-unfoldable pub told_truth : BoolSeen → List ℕ → List ℕ
+abbrev pub told_truth : BoolSeen → List ℕ → List ℕ
 told_truth s told = told_words told s.given (cond s.value 1 0 ∷ [])
 
-unfoldable pub told_fanins : FaninSeen → List ℕ → List ℕ
+abbrev pub told_fanins : FaninSeen → List ℕ → List ℕ
 told_fanins s told = told_words told s.given (s.first ∷ s.second ∷ [])
 
-abbrev pub constant_number : MaybeConstant → ℕ
-constant_number False = 0
-constant_number True = 1
-constant_number Neither = 2
+abbrev pub constant_number : Option Bool → ℕ
+constant_number (Some v) = cond v 1 0
+constant_number None = 2
 
 -- ---- any two results that a promise allows are equal. The calls that cannot refuse have the promises of `edge`, where that is said of each.
 pub edge_told_determined : (s : EdgeSeen) (before a b : List ℕ) → a ≡ told_edge s before → b ≡ told_edge s before → a ≡ b

@@ -1,48 +1,20 @@
 // Edges and single rows, for callers in C. Where a call can refuse, `told` takes the number and the place of the answer, then what comes with it.
 #![tactic(auto)]
 
-ghost use Rattle.std.specs.Prelude.{◌≡◌, cond, eqb};
-ghost use Rattle.edge.specs.Edges.{id_of, is_complemented, complement, complement_if, constant_of, which_constant, bool_seen, to_constant_call, edge_seen, new_call, map_call};
+ghost use Rattle.std.specs.Prelude.{◌≡◌, eqb};
+ghost use Rattle.edge.specs.Edges.{id_of, is_complemented, complement, complement_if, constant_of, which_constant, to_constant_call, new_call, map_call};
 ghost use Rattle.rows.specs.Reading.{is_and_call, is_leaf_call, fanin0_call, fanin1_call, fanin_seen, fanin_call};
 ghost use Rattle.sulandiro_edge.specs.Told.{told_edge, told_truth, told_fanins, constant_number};
 
-use edge::{BoolAnswer, EdgeAnswer, MaybeConstant};
-use rows::Fanins;
+use edge::Refusal;
 use sulandiro_words::{put, tell_word};
 
-// A truth value as a word.
-fn truth(v: bool) -> u64
-    ensures { result ≡ cond v 1 0 }
-{
-    if v { 1 } else { 0 }
-}
-
-// Writes an answer and the edge that comes with it.
-fn tell_edge(told: &mut [u64], r: EdgeAnswer)
-    ensures { told.new ≡ told_edge (edge_seen r) told.old }
-{
-    let a = r.answer;
-    let e = r.edge;
-    tell_word(told, a, e as u64);
-}
-
-// Writes an answer and the truth value that comes with it.
-fn tell_truth(told: &mut [u64], r: BoolAnswer)
-    ensures { told.new ≡ told_truth (bool_seen r) told.old }
-{
-    let a = r.answer;
-    let v = r.value;
-    tell_word(told, a, truth(v));
-}
-
 // Writes an answer and both fanins.
-fn tell_fanins(told: &mut [u64], r: Fanins)
+fn tell_fanins(told: &mut [u64], r: Result<(u32, u32), Refusal>)
     ensures { told.new ≡ told_fanins (fanin_seen r) told.old }
 {
-    let a = r.answer;
-    let first = r.first;
-    let second = r.second;
-    tell_word(told, a, first as u64);
+    let (first, second) = r.unwrap_or((0, 0));
+    tell_word(told, r.map(|_| first as u64));
     put(told, 5, second as u64);
 }
 
@@ -51,8 +23,7 @@ fn tell_fanins(told: &mut [u64], r: Fanins)
 pub extern "C" fn sulandiro_edge_new(id: u32, complement: bool, told: &mut [u64])
     ensures { told.new ≡ told_edge (new_call id complement) told.old }
 {
-    let r = edge::new(id, complement);
-    tell_edge(told, r);
+    tell_word(told, edge::new(id, complement).map(u64::from));
 }
 
 // `edge::node_id`.
@@ -117,9 +88,8 @@ pub extern "C" fn sulandiro_edge_try_to_constant(e: u32) -> u8
     ensures { result ≡ constant_number (which_constant e) }
 {
     match edge::try_to_constant(e) {
-        MaybeConstant::False => 0,
-        MaybeConstant::True => 1,
-        MaybeConstant::Neither => 2,
+        Some(value) => u8::from(value),
+        None => 2,
     }
 }
 
@@ -128,8 +98,7 @@ pub extern "C" fn sulandiro_edge_try_to_constant(e: u32) -> u8
 pub extern "C" fn sulandiro_edge_to_constant(e: u32, told: &mut [u64])
     ensures { told.new ≡ told_truth (to_constant_call e) told.old }
 {
-    let r = edge::to_constant(e);
-    tell_truth(told, r);
+    tell_word(told, edge::to_constant(e).map(u64::from));
 }
 
 // `edge::map`. Behind the answer `told` takes the edge.
@@ -137,8 +106,7 @@ pub extern "C" fn sulandiro_edge_to_constant(e: u32, told: &mut [u64])
 pub extern "C" fn sulandiro_edge_map(e: u32, map: &[u32], told: &mut [u64])
     ensures { told.new ≡ told_edge (map_call e map.now) told.old }
 {
-    let r = edge::map(e, map);
-    tell_edge(told, r);
+    tell_word(told, edge::map(e, map).map(u64::from));
 }
 
 // `rows::is_and`. Behind the answer `told` takes 0 or 1.
@@ -146,8 +114,7 @@ pub extern "C" fn sulandiro_edge_map(e: u32, map: &[u32], told: &mut [u64])
 pub extern "C" fn sulandiro_is_and(rows: &[u32], used: usize, id: u32, told: &mut [u64])
     ensures { told.new ≡ told_truth (is_and_call rows.now used id) told.old }
 {
-    let r = rows::is_and(rows, used, id);
-    tell_truth(told, r);
+    tell_word(told, rows::is_and(rows, used, id).map(u64::from));
 }
 
 // `rows::is_leaf`. Behind the answer `told` takes 0 or 1.
@@ -155,8 +122,7 @@ pub extern "C" fn sulandiro_is_and(rows: &[u32], used: usize, id: u32, told: &mu
 pub extern "C" fn sulandiro_is_leaf(rows: &[u32], used: usize, id: u32, told: &mut [u64])
     ensures { told.new ≡ told_truth (is_leaf_call rows.now used id) told.old }
 {
-    let r = rows::is_leaf(rows, used, id);
-    tell_truth(told, r);
+    tell_word(told, rows::is_leaf(rows, used, id).map(u64::from));
 }
 
 // `rows::fanin`. Behind the answer `told` takes both fanins.
@@ -164,8 +130,7 @@ pub extern "C" fn sulandiro_is_leaf(rows: &[u32], used: usize, id: u32, told: &m
 pub extern "C" fn sulandiro_fanin(rows: &[u32], used: usize, id: u32, told: &mut [u64])
     ensures { told.new ≡ told_fanins (fanin_call rows.now used id) told.old }
 {
-    let r = rows::fanin(rows, used, id);
-    tell_fanins(told, r);
+    tell_fanins(told, rows::fanin(rows, used, id));
 }
 
 // `rows::fanin0`. Behind the answer `told` takes the fanin.
@@ -173,8 +138,7 @@ pub extern "C" fn sulandiro_fanin(rows: &[u32], used: usize, id: u32, told: &mut
 pub extern "C" fn sulandiro_fanin0(rows: &[u32], used: usize, id: u32, told: &mut [u64])
     ensures { told.new ≡ told_edge (fanin0_call rows.now used id) told.old }
 {
-    let r = rows::fanin0(rows, used, id);
-    tell_edge(told, r);
+    tell_word(told, rows::fanin0(rows, used, id).map(u64::from));
 }
 
 // `rows::fanin1`. Behind the answer `told` takes the fanin.
@@ -182,6 +146,5 @@ pub extern "C" fn sulandiro_fanin0(rows: &[u32], used: usize, id: u32, told: &mu
 pub extern "C" fn sulandiro_fanin1(rows: &[u32], used: usize, id: u32, told: &mut [u64])
     ensures { told.new ≡ told_edge (fanin1_call rows.now used id) told.old }
 {
-    let r = rows::fanin1(rows, used, id);
-    tell_edge(told, r);
+    tell_word(told, rows::fanin1(rows, used, id).map(u64::from));
 }

@@ -1,4 +1,5 @@
 // The calls on a graph's property. `told` takes the number and the place of the answer, then the nine counts.
+// Each list is a parameter of its own: the C interface.
 #![tactic(auto)]
 
 ghost use Rattle.std.specs.Prelude.{◌≡◌};
@@ -9,6 +10,8 @@ ghost use Rattle.property.specs.GateInit.{gate_init_call};
 ghost use Rattle.sulandiro_words.specs.Words.{counts_in};
 ghost use Rattle.sulandiro_words.specs.Told.{told_seen, told_of, told_listed, told_listed_of};
 
+use graph::Graph;
+use output::Tables;
 use sulandiro_words::{counts_in, tell_rebuilt};
 
 // `aig_move::aig_move`.
@@ -43,7 +46,7 @@ pub extern "C" fn sulandiro_aig_move(
         marks.old) told.old }
 {
     let n = counts_in(counts);
-    let r = aig_move::aig_move(
+    let graph = Graph {
         rows,
         inputs,
         latches,
@@ -53,19 +56,21 @@ pub extern "C" fn sulandiro_aig_move(
         ends,
         edges,
         fairness,
-        n,
-        rows2,
-        inputs2,
-        latches2,
-        constraints2,
-        bads2,
-        outputs2,
-        ends2,
-        edges2,
-        fairness2,
-        marks,
-    );
-    tell_rebuilt(told, r);
+        counts: n,
+    };
+    let mut tables = Tables {
+        rows: rows2,
+        inputs: inputs2,
+        latches: latches2,
+        constraints: constraints2,
+        bads: bads2,
+        outputs: outputs2,
+        ends: ends2,
+        edges: edges2,
+        fairness: fairness2,
+    };
+    let r = aig_move::aig_move(&graph, &mut tables, marks);
+    tell_rebuilt(told, r, n);
 }
 
 // `property::compress_property`.
@@ -105,7 +110,7 @@ pub extern "C" fn sulandiro_compress_property(
         old,
         marks,
     );
-    tell_rebuilt(told, compressed);
+    tell_rebuilt(told, compressed, n);
 }
 
 // `property::gate_init_to_constraint`.
@@ -143,5 +148,5 @@ pub extern "C" fn sulandiro_gate_init_to_constraint(
         n,
         marks,
     );
-    tell_rebuilt(told, r);
+    tell_rebuilt(told, r, n);
 }

@@ -1,4 +1,5 @@
 // The calls that read a graph, for callers in C. `told` takes the number and the place of the answer, then what comes with it.
+// Each list is a parameter of its own: the C interface.
 #![tactic(auto)]
 
 ghost use Rattle.std.specs.Prelude.{◌≡◌, [], ◌∷◌};
@@ -12,9 +13,10 @@ ghost use Rattle.sulandiro_words.specs.Words.{counts_in};
 ghost use Rattle.sulandiro_read.specs.Read.{check_read, cone_read, coi_read, run_read, step_read, value_read, cnf_read};
 ghost use Rattle.sulandiro_words.specs.Told.{shown, shown_of};
 
+use graph::Graph;
 use sulandiro_words::{counts_in, tell, tell_word};
 
-// `graph::check`.
+// `Graph::check`.
 #[unsafe(no_mangle)]
 pub extern "C" fn sulandiro_check(
     rows: &[u32],
@@ -33,8 +35,7 @@ pub extern "C" fn sulandiro_check(
     ensures { shown (marks.new ∷ []) told.new
         ≡ shown_of (check_read (check_call (lent rows.now inputs.now latches.now constraints.now bads.now outputs.now ends.now edges.now fairness.now (counts_in counts.now)) marks.old)) told.old }
 {
-    let n = counts_in(counts);
-    let checked = graph::check(
+    let graph = Graph {
         rows,
         inputs,
         latches,
@@ -44,9 +45,9 @@ pub extern "C" fn sulandiro_check(
         ends,
         edges,
         fairness,
-        n,
-        marks,
-    );
+        counts: counts_in(counts),
+    };
+    let checked = graph.check(marks);
     tell(told, checked);
 }
 
@@ -71,8 +72,7 @@ pub extern "C" fn sulandiro_fanin_logic_cone(
     ensures { shown (flags.new ∷ marks.new ∷ []) told.new
         ≡ shown_of (cone_read (cone_call (lent rows.now inputs.now latches.now constraints.now bads.now outputs.now ends.now edges.now fairness.now (counts_in counts.now)) roots.now flags.old marks.old)) told.old }
 {
-    let n = counts_in(counts);
-    let r = cone::fanin_logic_cone(
+    let graph = Graph {
         rows,
         inputs,
         latches,
@@ -82,11 +82,9 @@ pub extern "C" fn sulandiro_fanin_logic_cone(
         ends,
         edges,
         fairness,
-        n,
-        roots,
-        flags,
-        marks,
-    );
+        counts: counts_in(counts),
+    };
+    let r = cone::fanin_logic_cone(&graph, roots, flags, marks);
     tell(told, r);
 }
 
@@ -112,8 +110,7 @@ pub extern "C" fn sulandiro_coi(
     ensures { shown (flags.new ∷ marks.new ∷ stack.new ∷ []) told.new
         ≡ shown_of (coi_read (coi_call (lent rows.now inputs.now latches.now constraints.now bads.now outputs.now ends.now edges.now fairness.now (counts_in counts.now)) ids.now flags.old marks.old stack.old)) told.old }
 {
-    let n = counts_in(counts);
-    let r = coi::coi(
+    let graph = Graph {
         rows,
         inputs,
         latches,
@@ -123,12 +120,9 @@ pub extern "C" fn sulandiro_coi(
         ends,
         edges,
         fairness,
-        n,
-        ids,
-        flags,
-        marks,
-        stack,
-    );
+        counts: counts_in(counts),
+    };
+    let r = coi::coi(&graph, ids, flags, marks, stack);
     tell(told, r);
 }
 
@@ -154,8 +148,7 @@ pub extern "C" fn sulandiro_ternary_simulate(
     ensures { shown (values.new ∷ marks.new ∷ []) told.new
         ≡ shown_of (run_read (run_call (lent rows.now inputs.now latches.now constraints.now bads.now outputs.now ends.now edges.now fairness.now (counts_in counts.now)) input.now state.now values.old marks.old)) told.old }
 {
-    let n = counts_in(counts);
-    let r = ternary::ternary_simulate(
+    let graph = Graph {
         rows,
         inputs,
         latches,
@@ -165,12 +158,9 @@ pub extern "C" fn sulandiro_ternary_simulate(
         ends,
         edges,
         fairness,
-        n,
-        input,
-        state,
-        values,
-        marks,
-    );
+        counts: counts_in(counts),
+    };
+    let r = ternary::ternary_simulate(&graph, input, state, values, marks);
     tell(told, r);
 }
 
@@ -196,8 +186,7 @@ pub extern "C" fn sulandiro_simulate(
     ensures { shown (state.new ∷ values.new ∷ marks.new ∷ []) told.new
         ≡ shown_of (step_read (step_call (lent rows.now inputs.now latches.now constraints.now bads.now outputs.now ends.now edges.now fairness.now (counts_in counts.now)) input.now state.old values.old marks.old)) told.old }
 {
-    let n = counts_in(counts);
-    let r = ternary::simulate(
+    let graph = Graph {
         rows,
         inputs,
         latches,
@@ -207,12 +196,9 @@ pub extern "C" fn sulandiro_simulate(
         ends,
         edges,
         fairness,
-        n,
-        input,
-        state,
-        values,
-        marks,
-    );
+        counts: counts_in(counts),
+    };
+    let r = ternary::simulate(&graph, input, state, values, marks);
     tell(told, r);
 }
 
@@ -223,9 +209,7 @@ pub extern "C" fn sulandiro_value(values: &[u8], used: usize, e: u32, told: &mut
         ≡ shown_of (value_read (value_call values.now used e)) told.old }
 {
     let r = ternary::value(values, used, e);
-    let a = r.answer;
-    let code = r.value;
-    tell_word(told, a, code as u64);
+    tell_word(told, r.map(u64::from));
 }
 
 // `cnf::cnf`. Behind the answer `told` takes how many words of clauses were written.
@@ -249,8 +233,7 @@ pub extern "C" fn sulandiro_cnf(
     ensures { shown (clauses.new ∷ marks.new ∷ []) told.new
         ≡ shown_of (cnf_read (cnf_call (lent rows.now inputs.now latches.now constraints.now bads.now outputs.now ends.now edges.now fairness.now (counts_in counts.now)) shortcuts clauses.old marks.old)) told.old }
 {
-    let n = counts_in(counts);
-    let r = cnf::cnf(
+    let graph = Graph {
         rows,
         inputs,
         latches,
@@ -260,12 +243,8 @@ pub extern "C" fn sulandiro_cnf(
         ends,
         edges,
         fairness,
-        n,
-        shortcuts,
-        clauses,
-        marks,
-    );
-    let a = r.answer;
-    let written = r.words;
-    tell_word(told, a, written as u64);
+        counts: counts_in(counts),
+    };
+    let r = cnf::cnf(&graph, shortcuts, clauses, marks);
+    tell_word(told, r.map(|words| words as u64));
 }

@@ -1,4 +1,5 @@
 // The calls that rebuild a graph. `told` takes the number and the place of the answer, then the nine counts.
+// Each list is a parameter of its own: the C interface.
 #![tactic(auto)]
 
 ghost use Rattle.std.specs.Prelude.{◌≡◌};
@@ -9,6 +10,8 @@ ghost use Rattle.reencode.specs.Call.{reencode_call};
 ghost use Rattle.refine.specs.Call.{refine_call};
 ghost use Rattle.sulandiro_words.specs.Told.{told_seen, told_of, told_listed, told_listed_of};
 
+use graph::Graph;
+use output::Tables;
 use sulandiro_words::{counts_in, tell_rebuilt};
 
 // `merge::merge`.
@@ -45,7 +48,7 @@ pub extern "C" fn sulandiro_merge(
 {
     let n = counts_in(counts);
     let n2 = counts_in(counts2);
-    let r = merge::merge(
+    let mut tables = Tables {
         rows,
         inputs,
         latches,
@@ -55,20 +58,21 @@ pub extern "C" fn sulandiro_merge(
         ends,
         edges,
         fairness,
-        n,
-        rows2,
-        inputs2,
-        latches2,
-        constraints2,
-        bads2,
-        outputs2,
-        ends2,
-        edges2,
-        fairness2,
-        n2,
-        marks,
-    );
-    tell_rebuilt(told, r);
+    };
+    let other = Graph {
+        rows: rows2,
+        inputs: inputs2,
+        latches: latches2,
+        constraints: constraints2,
+        bads: bads2,
+        outputs: outputs2,
+        ends: ends2,
+        edges: edges2,
+        fairness: fairness2,
+        counts: n2,
+    };
+    let r = merge::merge(&mut tables, n, &other, marks);
+    tell_rebuilt(told, r, n);
 }
 
 // `reencode::reencode`.
@@ -103,7 +107,7 @@ pub extern "C" fn sulandiro_reencode(
         marks.old) told.old }
 {
     let n = counts_in(counts);
-    let r = reencode::reencode(
+    let graph = Graph {
         rows,
         inputs,
         latches,
@@ -113,19 +117,21 @@ pub extern "C" fn sulandiro_reencode(
         ends,
         edges,
         fairness,
-        n,
-        rows2,
-        inputs2,
-        latches2,
-        constraints2,
-        bads2,
-        outputs2,
-        ends2,
-        edges2,
-        fairness2,
-        marks,
-    );
-    tell_rebuilt(told, r);
+        counts: n,
+    };
+    let mut tables = Tables {
+        rows: rows2,
+        inputs: inputs2,
+        latches: latches2,
+        constraints: constraints2,
+        bads: bads2,
+        outputs: outputs2,
+        ends: ends2,
+        edges: edges2,
+        fairness: fairness2,
+    };
+    let r = reencode::reencode(&graph, &mut tables, marks);
+    tell_rebuilt(told, r, n);
 }
 
 // `refine::coi_refine`.
@@ -161,7 +167,7 @@ pub extern "C" fn sulandiro_coi_refine(
         old.old marks.old) told.old }
 {
     let n = counts_in(counts);
-    let r = refine::coi_refine(
+    let graph = Graph {
         rows,
         inputs,
         latches,
@@ -171,18 +177,19 @@ pub extern "C" fn sulandiro_coi_refine(
         ends,
         edges,
         fairness,
-        n,
-        rows2,
-        inputs2,
-        latches2,
-        constraints2,
-        bads2,
-        outputs2,
-        ends2,
-        edges2,
-        fairness2,
-        old,
-        marks,
-    );
-    tell_rebuilt(told, r);
+        counts: n,
+    };
+    let mut tables = Tables {
+        rows: rows2,
+        inputs: inputs2,
+        latches: latches2,
+        constraints: constraints2,
+        bads: bads2,
+        outputs: outputs2,
+        ends: ends2,
+        edges: edges2,
+        fairness: fairness2,
+    };
+    let r = refine::coi_refine(&graph, &mut tables, old, marks);
+    tell_rebuilt(told, r, n);
 }

@@ -1,4 +1,5 @@
 // The calls that unroll a graph. `told` takes the number and the place of the answer, then the nine counts.
+// Each list is a parameter of its own: the C interface.
 #![tactic(auto)]
 
 ghost use Rattle.std.specs.Prelude.{◌≡◌};
@@ -10,6 +11,8 @@ ghost use Rattle.edge.specs.Answers.{told as answer_told};
 ghost use Rattle.sulandiro_unroll.specs.Frames.{told_ran, told_frames};
 ghost use Rattle.sulandiro_words.specs.Told.{told_seen, told_of};
 
+use graph::Graph;
+use output::Tables;
 use sulandiro_words::{counts_in, put, tell, tell_counts, tell_rebuilt};
 use unroll_to::Unrolled;
 
@@ -17,12 +20,9 @@ use unroll_to::Unrolled;
 fn tell_frames(told: &mut [u64], r: Unrolled)
     ensures { told.new ≡ told_ran told.old (answer_told r.answer) r.counts r.finished }
 {
-    let a = r.answer;
-    let n = r.counts;
-    let finished = r.finished;
-    tell(told, a);
-    tell_counts(told, n);
-    put(told, 13, finished as u64);
+    tell(told, r.answer);
+    tell_counts(told, r.counts);
+    put(told, 13, r.finished as u64);
 }
 
 // `unroll::unroll`.
@@ -59,7 +59,7 @@ pub extern "C" fn sulandiro_unroll(
 {
     let n = counts_in(counts);
     let n2 = counts_in(counts2);
-    let r = unroll::unroll(
+    let mut tables = Tables {
         rows,
         inputs,
         latches,
@@ -69,20 +69,21 @@ pub extern "C" fn sulandiro_unroll(
         ends,
         edges,
         fairness,
-        n,
-        rows2,
-        inputs2,
-        latches2,
-        constraints2,
-        bads2,
-        outputs2,
-        ends2,
-        edges2,
-        fairness2,
-        n2,
-        marks,
-    );
-    tell_rebuilt(told, r);
+    };
+    let graph = Graph {
+        rows: rows2,
+        inputs: inputs2,
+        latches: latches2,
+        constraints: constraints2,
+        bads: bads2,
+        outputs: outputs2,
+        ends: ends2,
+        edges: edges2,
+        fairness: fairness2,
+        counts: n2,
+    };
+    let r = unroll::unroll(&mut tables, n, &graph, marks);
+    tell_rebuilt(told, r, n);
 }
 
 // `unroll_to::unroll_to`. Behind the counts `told` takes the number of finished frames.
@@ -118,7 +119,7 @@ pub extern "C" fn sulandiro_unroll_to(
         frames marks.old) told.old }
 {
     let n = counts_in(counts);
-    let r = unroll_to::unroll_to(
+    let graph = Graph {
         rows,
         inputs,
         latches,
@@ -128,18 +129,19 @@ pub extern "C" fn sulandiro_unroll_to(
         ends,
         edges,
         fairness,
-        n,
-        frames,
-        rows2,
-        inputs2,
-        latches2,
-        constraints2,
-        bads2,
-        outputs2,
-        ends2,
-        edges2,
-        fairness2,
-        marks,
-    );
+        counts: n,
+    };
+    let mut tables = Tables {
+        rows: rows2,
+        inputs: inputs2,
+        latches: latches2,
+        constraints: constraints2,
+        bads: bads2,
+        outputs: outputs2,
+        ends: ends2,
+        edges: edges2,
+        fairness: fairness2,
+    };
+    let r = unroll_to::unroll_to(&graph, frames, &mut tables, marks);
     tell_frames(told, r);
 }

@@ -5,12 +5,11 @@ use mathlib.Core.Path.{◌≡◌, ap, ◌∙◌}
 use mathlib.Core.List.{List}
 use Rattle.edge.specs.Answers.{told}
 use Rattle.graph.specs.Graph.{Lent}
-use Rattle.renumber.specs.declared.Rebuilt.{Rebuilt}
-use Rattle.renumber.specs.Seen.{RebuiltSeen, rebuilt_seen, ListedSeen, listed_seen}
+use Rattle.renumber.specs.Seen.{Rebuilt, RebuiltSeen, rebuilt_seen, ListedSeen, listed_seen}
 use Rattle.sulandiro_words.specs.Told.{ToldSeen, told_graph, told_of, told_listed, told_listed_of, told_rebuilt, told_words, Handed, shown, shown_of}
 
-module _ (before : List ℕ) (r : Rebuilt) (g : Lent) (m : List ℕ) {after : List ℕ} (w : after ≡ told_rebuilt before (told r.answer) g.counts) where
-  seen : told_graph g m after ≡ told_graph g m (told_rebuilt before (told r.answer) g.counts)
+module _ (before : List ℕ) (r : Rebuilt) (g : Lent) (m : List ℕ) {after : List ℕ} (w : after ≡ told_rebuilt before (told r) g.counts) where
+  seen : told_graph g m after ≡ told_graph g m (told_rebuilt before (told r) g.counts)
   seen = ap (told_graph g m) w
 
   pub tells : (promised : RebuiltSeen) → rebuilt_seen r g m ≡ promised → told_graph g m after ≡ told_of promised before

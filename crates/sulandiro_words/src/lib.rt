@@ -3,23 +3,18 @@
 
 ghost use Rattle.std.specs.Prelude.{◌≡◌, [], ◌∷◌, get_or, set};
 ghost use Rattle.std.proofs.lemmas.List.Edits.{sets};
-ghost use Rattle.edge.specs.Answers.{told as told_of};
+ghost use Rattle.edge.specs.Answers.{told as told_of, value_or};
 ghost use Rattle.sulandiro_words.specs.Words.{counts_in, given_words, count_words};
 ghost use Rattle.sulandiro_words.specs.Told.{told_words, told_rebuilt};
 
-use edge::Answer;
+use edge::Refusal;
 use graph::Counts;
-use renumber::Rebuilt;
 
 // Word i, and 0 where there is none.
 fn at(words: &[u64], i: usize) -> usize
     ensures { result ≡ get_or words.now i 0 }
 {
-    if i < words.len() {
-        words[i] as usize
-    } else {
-        0
-    }
+    words.get(i).map_or(0, |word| *word as usize)
 }
 
 // The nine counts, in the order of `Counts`; one that is not there is 0.
@@ -39,7 +34,7 @@ pub fn counts_in(words: &[u64]) -> Counts
     }
 }
 
-// Writes a word, where there is room for it.
+// Writes a word, where there is room for it. By the length: `get_mut` was tried, and its proof had to cite names of the prover's own.
 pub fn put(words: &mut [u64], i: usize, w: u64)
     ensures { words.new ≡ set words.old i w }
 {
@@ -50,10 +45,10 @@ pub fn put(words: &mut [u64], i: usize, w: u64)
 }
 
 // Writes the number and the place of an answer: four words, as far as there is room.
-pub fn tell(words: &mut [u64], a: Answer)
-    ensures { words.new ≡ sets words.old 0 (given_words (told_of a)) }
+pub fn tell(words: &mut [u64], answer: Result<(), Refusal>)
+    ensures { words.new ≡ sets words.old 0 (given_words (told_of answer)) }
 {
-    let given = edge::told(a);
+    let given = edge::told(answer);
     put(words, 0, given.number as u64);
     put(words, 1, given.place as u64);
     put(words, 2, given.index as u64);
@@ -75,20 +70,18 @@ pub fn tell_counts(words: &mut [u64], n: Counts)
     put(words, 12, n.fairness as u64);
 }
 
-// Writes an answer, and behind it the word that comes with it.
-pub fn tell_word(words: &mut [u64], a: Answer, w: u64)
-    ensures { words.new ≡ told_words words.old (told_of a) (w ∷ []) }
+// Writes an answer, and behind it the word that comes with it: 0 where it is refused.
+pub fn tell_word(words: &mut [u64], answer: Result<u64, Refusal>)
+    ensures { words.new ≡ told_words words.old (told_of answer) (value_or 0 answer ∷ []) }
 {
-    tell(words, a);
-    put(words, 4, w);
+    tell(words, answer.map(|_| ()));
+    put(words, 4, answer.unwrap_or(0));
 }
 
-// Writes what a call that rebuilds a graph answers: the answer, then the counts.
-pub fn tell_rebuilt(told: &mut [u64], r: Rebuilt)
-    ensures { told.new ≡ told_rebuilt told.old (told_of r.answer) r.counts }
+// Writes what a call that rebuilds a graph answers: the answer, then the counts, which are those given where it is refused.
+pub fn tell_rebuilt(told: &mut [u64], answer: Result<Counts, Refusal>, given: Counts)
+    ensures { told.new ≡ told_rebuilt told.old (told_of answer) (value_or given answer) }
 {
-    let a = r.answer;
-    let n = r.counts;
-    tell(told, a);
-    tell_counts(told, n);
+    tell(told, answer.map(|_| ()));
+    tell_counts(told, answer.unwrap_or(given));
 }

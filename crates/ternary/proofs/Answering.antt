@@ -8,8 +8,9 @@ use mathlib.Core.List.{List, ◌++◌, append-nil}
 use lib.ListN.{length, get_or, drop, length-append, drop_of_length-le}
 use lib.Dec.{eqb, ltb, leb}
 use borrow.Author.Tests.{ltb-true, ltb-false, lt-ltb, le-ltb, leb-true, le-leb, lt-leb, eqb-true, eqb-false, eq-eqb}
-use Rattle.edge.specs.declared.answer.Answer.{Answer}
-use Rattle.edge.specs.declared.answer.Answer.TheVariants.{Done, BadSizes, BadArgument}
+use Rattle.std.specs.Prelude.{Result, Ok, Err}
+use Rattle.edge.specs.declared.answer.Refusal.{Refusal}
+use Rattle.edge.specs.declared.answer.Refusal.TheVariants.{BadSizes, BadArgument}
 use Rattle.edge.specs.declared.answer.Given.{Given}
 use Rattle.edge.specs.Answers.{done, bad_sizes, bad_argument, told, or_else}
 use Rattle.edge.specs.Edges.{id_of}
@@ -158,11 +159,11 @@ module _ (g : Lent) (input state values marks : List ℕ) where
   unsized = record { given = bad_sizes; values = values; marks = marks }
 
   -- 1: values too short
-  pub run_short : length values < g.counts.rows → run_seen BadSizes values marks ≡ run_call g input state values marks
+  pub run_short : length values < g.counts.rows → run_seen (Err BadSizes) values marks ≡ run_call g input state values marks
   unfolding run_call
   run_short l = rw (lt-leb _ _ l)
 
-  module _ (room : g.counts.rows ≤ length values) (r : Answer) (after : List ℕ) (seen : check_seen r after ≡ check_call g marks) where
+  module _ (room : g.counts.rows ≤ length values) (r : Result Unit Refusal) (after : List ℕ) (seen : check_seen r after ≡ check_call g marks) where
     -- what the check refuses
     pub run_refused : eqb (told r).number 0 ≡ false → run_seen r values after ≡ run_call g input state values marks
     unfolding run_call check_call simulate_answer or_else
@@ -187,14 +188,14 @@ module _ (g : Lent) (input state values marks : List ℕ) where
       after_cleared = ap (λ (x : CheckSeen). x.marks) seen ∙ (checked g marks number_zero).after
 
       -- 4
-      pub run_argument : arguments_right g.counts.inputs g.counts.latches input state ≡ false → run_seen BadArgument values after ≡ run_call g input state values marks
+      pub run_argument : arguments_right g.counts.inputs g.counts.latches input state ≡ false → run_seen (Err BadArgument) values after ≡ run_call g input state values marks
       unfolding run_call simulate_answer or_else
       run_argument n =
           let c = checked g marks number_zero in
           rw (le-leb _ _ room, c.sizes, after_cleared, eq-eqb _ _ c.clean, n)
 
       module _ (a : arguments_right g.counts.inputs g.counts.latches input state ≡ true) where
-        pub run_done : (values' : List ℕ) → values' ≡ written g input state values → run_seen Done values' after ≡ run_call g input state values marks
+        pub run_done : (values' : List ℕ) → values' ≡ written g input state values → run_seen (Ok tt) values' after ≡ run_call g input state values marks
         unfolding run_call simulate_answer or_else
         run_done values' w =
             let c = checked g marks number_zero in
@@ -205,7 +206,7 @@ module _ (g : Lent) (input state values marks : List ℕ) where
 
 -- ---- done exactly where everything is as it must be
 module _ (g : Lent) (input state values marks : List ℕ) where
-  pub ready : Accepted g input state values marks → RunReady g.rows g.inputs g.latches g.counts input state values
+  pub ready : Accepted g input state values marks → RunReady g input state values
   ready a =
       let s = a.sized in
       record {
@@ -300,7 +301,7 @@ pub run_long : (g : Lent) (input state : List ℕ) → length (run g input state
 unfolding codes_of
 run_long g input state = rows_long g.rows (leaves g.inputs g.latches g.counts input state) g.counts.rows
 
-module _ (g : Lent) (input state values marks : List ℕ) (r : Answer) (values' marks' : List ℕ) (seen : run_seen r values' marks' ≡ run_call g input state values marks) where
+module _ (g : Lent) (input state values marks : List ℕ) (r : Result Unit Refusal) (values' marks' : List ℕ) (seen : run_seen r values' marks' ≡ run_call g input state values marks) where
   pub step_refused : eqb (told r).number 0 ≡ false → step_seen r state values' marks' ≡ step_call g input state values marks
   unfolding step_call
   step_refused n = rw (← seen, n)

@@ -1,17 +1,16 @@
 -- What the calls answer and write.
 -- Assumes nothing.
-use Rattle.std.specs.Prelude.{ℕ, zero, suc, ◌≤◌, ◌≡◌, List, ◌++◌, Bool, cond, ◌&&◌, length, get_or, drop, eqb, ltb, leb}
+use Rattle.std.specs.Prelude.{ℕ, zero, suc, ◌≤◌, ◌≡◌, List, ◌++◌, Bool, cond, ◌&&◌, length, get_or, drop, eqb, ltb, leb, Result}
 use Rattle.std.proofs.Common.{ap}
-use Rattle.edge.specs.declared.answer.Answer.{Answer}
+use Rattle.edge.specs.declared.answer.Refusal.{Refusal}
 use Rattle.edge.specs.declared.answer.Given.{Given}
-use Rattle.edge.specs.Answers.{done, bad_sizes, bad_argument, told, told_injective, or_else, determined}
+use Rattle.edge.specs.Answers.{done, bad_sizes, bad_argument, told, value_or, answer_known, told_injective, or_else, determined}
 use Rattle.edge.specs.Edges.{id_of}
 use Rattle.rows.specs.Reading.{if_done}
 use Rattle.graph.specs.Leaves.{used_edge}
 use Rattle.graph.specs.Graph.{Lent, sizes_right, Sized}
 use Rattle.graph.specs.Check.{contents, cleared}
 use Rattle.graph.specs.WellFormed.{WellFormed}
-use Rattle.ternary.specs.declared.ValueAnswer.{ValueAnswer}
 use Rattle.ternary_run.specs.Codes.{edge3, Codes, all_codes}
 use Rattle.ternary_run.specs.Run.{run, next}
 
@@ -37,7 +36,7 @@ pub record RunSeen : Type 0 where
   pub values : List ℕ
   pub marks : List ℕ
 
-abbrev pub run_seen : Answer → List ℕ → List ℕ → RunSeen
+abbrev pub run_seen : Result Unit Refusal → List ℕ → List ℕ → RunSeen
 run_seen r values marks = record { given = told r; values = values; marks = marks }
 
 unfoldable pub run_call : Lent → List ℕ → List ℕ → List ℕ → List ℕ → RunSeen
@@ -62,7 +61,7 @@ pub record StepSeen : Type 0 where
   pub values : List ℕ
   pub marks : List ℕ
 
-abbrev pub step_seen : Answer → List ℕ → List ℕ → List ℕ → StepSeen
+abbrev pub step_seen : Result Unit Refusal → List ℕ → List ℕ → List ℕ → StepSeen
 step_seen r state values marks = record { given = told r; state = state; values = values; marks = marks }
 
 -- the step is the run, "then each latch takes its next's value"
@@ -83,8 +82,8 @@ pub record ValueSeen : Type 0 where
   pub given : Given
   pub value : ℕ
 
-abbrev pub value_seen : ValueAnswer → ValueSeen
-value_seen r = record { given = told r.answer; value = r.value }
+abbrev pub value_seen : Result ℕ Refusal → ValueSeen
+value_seen r = record { given = told r; value = value_or 0 r }
 
 -- 1 for the values, then 4 for "`value` of an edge not used" and "a code above 2 in .. the one byte that `value` reads"
 unfoldable pub value_given : List ℕ → ℕ → ℕ → Given
@@ -95,20 +94,19 @@ unfoldable pub value_call : List ℕ → ℕ → ℕ → ValueSeen
 value_call values used e = record { given = value_given values used e; value = if_done (value_given values used e) (edge3 values e) 0 }
 
 -- ---- any two results that a promise allows are equal, call by call
-pub ternary_simulate_determined : (g : Lent) (input state values marks : List ℕ) (r s : Answer) (v w m n : List ℕ)
+pub ternary_simulate_determined : (g : Lent) (input state values marks : List ℕ) (r s : Result Unit Refusal) (v w m n : List ℕ)
     → run_seen r v m ≡ run_call g input state values marks → run_seen s w n ≡ run_call g input state values marks → (r ≡ s) × (v ≡ w) × (m ≡ n)
 ternary_simulate_determined g input state values marks r s v w m n p q =
     let t = determined (run_call g input state values) marks (run_seen r v m) (run_seen s w n) p q in
     (told_injective r s (ap (λ (x : RunSeen). x.given) t), ap (λ (x : RunSeen). x.values) t, ap (λ (x : RunSeen). x.marks) t)
 
-pub simulate_determined : (g : Lent) (input state values marks : List ℕ) (r s : Answer) (a b v w m n : List ℕ)
+pub simulate_determined : (g : Lent) (input state values marks : List ℕ) (r s : Result Unit Refusal) (a b v w m n : List ℕ)
     → step_seen r a v m ≡ step_call g input state values marks → step_seen s b w n ≡ step_call g input state values marks → (r ≡ s) × (a ≡ b) × (v ≡ w) × (m ≡ n)
 simulate_determined g input state values marks r s a b v w m n p q =
     let t = determined (step_call g input state values) marks (step_seen r a v m) (step_seen s b w n) p q in
     (told_injective r s (ap (λ (x : StepSeen). x.given) t), ap (λ (x : StepSeen). x.state) t, ap (λ (x : StepSeen). x.values) t, ap (λ (x : StepSeen). x.marks) t)
 
-pub value_determined : (values : List ℕ) (used e : ℕ) (r s : ValueAnswer) → value_seen r ≡ value_call values used e → value_seen s ≡ value_call values used e
-    → (r.answer ≡ s.answer) × (r.value ≡ s.value)
+pub value_determined : (values : List ℕ) (used e : ℕ) (r s : Result ℕ Refusal) → value_seen r ≡ value_call values used e → value_seen s ≡ value_call values used e → r ≡ s
 value_determined values used e r s p q =
     let t = determined (value_call values used) e (value_seen r) (value_seen s) p q in
-    (told_injective r.answer s.answer (ap (λ (x : ValueSeen). x.given) t), ap (λ (x : ValueSeen). x.value) t)
+    answer_known 0 r s (ap (λ (x : ValueSeen). x.given) t) (ap (λ (x : ValueSeen). x.value) t)

@@ -2,15 +2,16 @@
 -- Assumes nothing.
 use Prim.Native.Nat.{ℕ, zero, suc, ◌+◌, ◌*◌, ◌/◌, ◌%◌, ◌≤◌, ◌<◌}
 use native.Mathlib.Omega.{arith}
-use native.Mathlib.Numerals.{add-one}
 use mathlib.Core.Path.{◌≡◌, refl, sym, ap₂, ◌∙◌}
 use mathlib.Core.Bool.{Bool, true, false, cond, ◌&&◌, ◌||◌}
 use mathlib.Core.Logic.{⊎_elim}
 use mathlib.Core.List.{List, [], ◌∷◌}
-use lib.ListN.{length, get_or, set, drop, drop_of_length-le}
-use lib.Seq.{drop-cons, set_out, get_or-set_same, get_or-set_other}
-use lib.Dec.{eqb, ltb, eqb→eq}
-use borrow.Author.Tests.{ltb-true, lt-ltb, le-ltb, eqb-true, eqb-false}
+use lib.ListN.{length, get_or, set}
+use lib.Seq.{set_out, get_or-set_same, get_or-set_other}
+use Rattle.std.specs.List.{list_all}
+use Rattle.std.proofs.Math.Dec.{leb-suc-suc}
+use lib.Dec.{eqb, ltb, leb, eqb→eq}
+use borrow.Author.Tests.{ltb-true, lt-ltb, eqb-true, eqb-false}
 use Rattle.edge.specs.Edges.{id_of, is_complemented}
 use Rattle.edge.proofs.Tests.{both, both_true, lt_or_le}
 use Rattle.ternary_run.specs.Codes.{and3, and_table, not3, edge3, Codes, all_codes, Nine}
@@ -68,20 +69,11 @@ unfolding all_codes
 all_codes_lem [] h = refl
 all_codes_lem (x ∷ xs) h = both_true (lt-ltb x 3 (h 0 (omega arith))) (all_codes_lem xs (λ i l. h (suc i) (omega arith)))
 
--- the search for a code above 2
-module _ (l : List ℕ) (i : ℕ) where
-  pub codes_end : length l ≤ i → all_codes (drop i l) ≡ true
-  unfolding all_codes
-  codes_end h = rw (drop_of_length-le l h)
-
-  module _ (h : i < length l) where
-    pub codes_stop : 2 < get_or l i 0 → all_codes (drop i l) ≡ false
-    unfolding all_codes
-    codes_stop k = let m : 3 ≤ get_or l i 0 = omega arith in rw (drop-cons l i 0 h, le-ltb (get_or l i 0) 3 m)
-
-    pub codes_go : get_or l i 0 ≤ 2 → all_codes (drop i l) ≡ all_codes (drop (i + 1) l)
-    unfolding all_codes
-    codes_go k = let m : get_or l i 0 < 3 = omega arith in rw (add-one, drop-cons l i 0 h, lt-ltb (get_or l i 0) 3 m)
+-- the library asks the same of a list
+pub codes_listed : (l : List ℕ) → list_all (λ (x : ℕ). leb x 2) l ≡ all_codes l
+unfolding all_codes
+codes_listed [] = refl
+codes_listed (x ∷ xs) = ap₂ (λ (a b : Bool). a && b) (sym (leb-suc-suc x 2)) (codes_listed xs)
 
 -- ---- after a store
 -- what stood at j has P, and where j is stored to, what is stored has it too

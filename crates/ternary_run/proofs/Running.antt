@@ -8,19 +8,37 @@ use mathlib.Core.Path.{◌≡◌, refl, sym, ap, ap₂, ◌∙◌}
 use mathlib.Core.Bool.{Bool, true, false, cond}
 use mathlib.Core.Logic.{⊎_elim}
 use mathlib.Core.List.{List, [], ◌∷◌, ◌++◌, append_assoc}
-use lib.ListN.{length, get_or, set, drop, replicate, length-set, length-replicate, length-append, get_or-replicate, get_or-append}
-use lib.Seq.{drop-cons, set_at, get_or_at, drop_at, set-append_left, get_or-set_same, get_or-set_other}
+use lib.ListN.{length, get_or, set, take, drop, replicate, drop_of_length-le, length-set, length-replicate, length-append, get_or-replicate, get_or-append}
+use lib.Seq.{length-take-le, get_or-take, drop-cons, set_at, get_or_at, drop_at, set-append_left, get_or-set_same, get_or-set_other}
 use lib.Dec.{eqb}
 use borrow.Author.Tests.{eqb-true, eqb-false}
 use Rattle.edge.specs.Edges.{id_of}
+use Rattle.edge.proofs.Tests.{lt_or_le}
 use Rattle.rows.specs.Rows.{word0, word1, gate_at}
 use Rattle.rows.proofs.Laws.{gate_below}
 use Rattle.graph.specs.declared.Counts.{Counts}
 use Rattle.graph.specs.Latches.{latch_at}
+use Rattle.graph.specs.Graph.{Lent}
 use Rattle.ternary_run.specs.Codes.{unknown, and3, edge3, Codes}
-use Rattle.ternary_run.specs.Run.{blank, placed, input_row, latch_row, next_row, leaves, row3, rows3, codes_of, nexts}
+use Rattle.ternary_run.specs.Run.{blank, placed, input_row, latch_row, next_row, leaves, row3, rows3, codes_of, run, nexts}
 use Rattle.ternary_run.specs.Steps.{Within, RunReady}
 use Rattle.ternary_run.proofs.Coding.{and_code, edge_same, stored}
+
+-- ---- the next of a list
+-- x is entry k of a list, and `rest` is what stands behind it
+pub record Next (xs : List ℕ) (k x : ℕ) (rest : List ℕ) : Type 0 where
+  pub within : k < length xs
+  pub is : x ≡ get_or xs k 0
+  pub left : rest ≡ drop (k + 1) xs
+
+pub next_of : (xs : List ℕ) (k x : ℕ) (rest : List ℕ) → drop k xs ≡ x ∷ rest → Next xs k x rest
+next_of xs k x rest e =
+    ⊎_elim
+    (λ (l : k < length xs).
+    let q : get_or xs k 0 ∷ drop (suc k) xs ≡ x ∷ rest = sym (drop-cons xs k 0 l) ∙ e in
+    record { within = l; is = sym (ap (λ (ys : List ℕ). get_or ys 0 0) q); left = rw add-one (sym (ap (λ (ys : List ℕ). drop 1 ys) q)) })
+    (λ (l : length xs ≤ k). let z : 0 ≡ suc (length rest) = ap length (sym (drop_of_length-le xs l) ∙ e) in absurd (omega arith))
+    (lt_or_le k (length xs))
 
 -- ---- what is placed
 module _ (row : ℕ → ℕ) (codes : List ℕ) where
@@ -32,6 +50,14 @@ module _ (row : ℕ → ℕ) (codes : List ℕ) where
   pub placed_more : (n : ℕ) (into : List ℕ) → set (placed row codes n into) (row n) (get_or codes n 0) ≡ placed row codes (n + 1) into
   unfolding placed
   placed_more n into = rw add-one
+
+  -- n items are taken, and one more
+  pub placed_next : {I : Type 0} (items : List I) (item : I) (into : List ℕ) {before : List ℕ} (x code : ℕ)
+      → before ≡ placed row codes (length items) into → x ≡ row (length items) → code ≡ get_or codes (length items) 0
+      → set before x code ≡ placed row codes (length (items ++ (item ∷ []))) into
+  placed_next items item into x code e p q =
+      let n : length (items ++ (item ∷ [])) ≡ length items + 1 = length-append items (item ∷ []) in
+      rw (e, p, q, n) (placed_more (length items) into)
 
   -- what stands behind stays
   pub placed_append : (n : ℕ) (into rest : List ℕ) → Within row n (length into) → placed row codes n (into ++ rest) ≡ placed row codes n into ++ rest
@@ -63,6 +89,23 @@ module _ (row : ℕ → ℕ) (codes : List ℕ) where
             let other = eqb-false j (row n) q in
             rw (get_or-set_other (placed row codes n into) (row n) j (get_or codes n 0) 0 other)
             (⊎_elim (λ (s : i ≡ n). absurd (other (sym e ∙ ap row s))) (λ (m : i < n). earlier m) (eq-or-lt_of_le (le_of_suc-le-suc l)))
+
+-- other names for the same rows
+placed_same : (row other : ℕ → ℕ) (codes : List ℕ) (n : ℕ) (into : List ℕ) → ((i : ℕ) → i < n → row i ≡ other i) → placed row codes n into ≡ placed other codes n into
+unfolding placed
+placed_same row other codes zero into h = refl
+placed_same row other codes (suc n) into h = rw (placed_same row other codes n into (λ i l. h i (omega arith)), h n (omega arith)) refl
+
+-- the first n inputs
+module _ (inputs : List ℕ) (n : ℕ) (l : n ≤ length inputs) where
+  pub inputs_within : {rows : ℕ} → Within (input_row inputs) n rows → Within (input_row (take n inputs)) (length (take n inputs)) rows
+  inputs_within h i k =
+      let m : i < n = omega (arith, length-take-le n inputs l) in
+      rw (get_or-take n inputs i 0 m) (h i m)
+
+  pub inputs_placed : (codes into : List ℕ) → placed (input_row (take n inputs)) codes (length (take n inputs)) into ≡ placed (input_row inputs) codes n into
+  inputs_placed codes into =
+      rw (length-take-le n inputs l) (placed_same (input_row (take n inputs)) (input_row inputs) codes n into (λ i k. get_or-take n inputs i 0 k))
 
 pub blank_long : (used : ℕ) → length (blank used) ≡ used
 blank_long used = simp (length-set, length-replicate {A = ℕ} used unknown)
@@ -173,44 +216,44 @@ rows_same rows leaf leaf' (suc n) h =
     rw t (ap (λ (x : ℕ). rows3 rows leaf' n ++ (x ∷ [])) (row_same rows leaf leaf' n (rows3 rows leaf' n) (rows3 rows leaf' n) (h n (omega arith)) (λ j l. refl)))
 
 -- ---- the whole run, in a buffer
-module _ (rows inputs latches : List ℕ) (counts : Counts) (input state values : List ℕ) (ready : RunReady rows inputs latches counts input state values) where
+module _ (g : Lent) (input state values : List ℕ) (ready : RunReady g input state values) where
   abbrev first : List ℕ
-  first = blank counts.rows ++ drop counts.rows values
+  first = blank g.counts.rows ++ drop g.counts.rows values
 
   abbrev second : List ℕ
-  second = placed (input_row inputs) input counts.inputs first
+  second = placed (input_row g.inputs) input g.counts.inputs first
 
   abbrev third : List ℕ
-  third = placed (latch_row latches) state counts.latches second
+  third = placed (latch_row g.latches) state g.counts.latches second
 
-  pub placed_all : third ≡ leaves inputs latches counts input state ++ drop counts.rows values
+  pub placed_all : third ≡ leaves g.inputs g.latches g.counts input state ++ drop g.counts.rows values
   placed_all =
-      let a = placed_append (input_row inputs) input counts.inputs (blank counts.rows) (drop counts.rows values) (λ i l. rw (blank_long counts.rows) (ready.input_rows i l)) in
-      let h : length (placed (input_row inputs) input counts.inputs (blank counts.rows)) ≡ counts.rows = placed_long (input_row inputs) input counts.inputs (blank counts.rows) ∙
-      blank_long counts.rows in
+      let a = placed_append (input_row g.inputs) input g.counts.inputs (blank g.counts.rows) (drop g.counts.rows values) (λ i l. rw (blank_long g.counts.rows) (ready.input_rows i l)) in
+      let h : length (placed (input_row g.inputs) input g.counts.inputs (blank g.counts.rows)) ≡ g.counts.rows = placed_long (input_row g.inputs) input g.counts.inputs (blank g.counts.rows) ∙
+      blank_long g.counts.rows in
       rw a
-      (placed_append (latch_row latches) state counts.latches (placed (input_row inputs) input counts.inputs (blank counts.rows)) (drop counts.rows values)
+      (placed_append (latch_row g.latches) state g.counts.latches (placed (input_row g.inputs) input g.counts.inputs (blank g.counts.rows)) (drop g.counts.rows values)
       (λ i l. rw h (ready.latch_rows i l)))
 
-  front_leaf : (i : ℕ) → i < counts.rows → get_or third i 0 ≡ get_or (leaves inputs latches counts input state) i 0
+  front_leaf : (i : ℕ) → i < g.counts.rows → get_or third i 0 ≡ get_or (leaves g.inputs g.latches g.counts input state) i 0
   front_leaf i l =
       ap (λ (t : List ℕ). get_or t i 0) placed_all
-      ∙ get_or-append (leaves inputs latches counts input state) (drop counts.rows values) 0 i (rw (leaves_long inputs latches counts input state) l)
+      ∙ get_or-append (leaves g.inputs g.latches g.counts input state) (drop g.counts.rows values) 0 i (rw (leaves_long g.inputs g.latches g.counts input state) l)
 
   -- the buffer after each part of the run
-  module _ (v₁ v₂ v₃ : List ℕ) (p₁ : v₁ ≡ first) (p₂ : v₂ ≡ placed (input_row inputs) input counts.inputs v₁) (p₃ : v₃ ≡ placed (latch_row latches) state counts.latches v₂) where
+  module _ (v₁ v₂ v₃ : List ℕ) (p₁ : v₁ ≡ first) (p₂ : v₂ ≡ placed (input_row g.inputs) input g.counts.inputs v₁) (p₃ : v₃ ≡ placed (latch_row g.latches) state g.counts.latches v₂) where
     all_placed : v₃ ≡ third
-    all_placed = p₃ ∙ ap (placed (latch_row latches) state counts.latches) (p₂ ∙ ap (placed (input_row inputs) input counts.inputs) p₁)
+    all_placed = p₃ ∙ ap (placed (latch_row g.latches) state g.counts.latches) (p₂ ∙ ap (placed (input_row g.inputs) input g.counts.inputs) p₁)
 
-    pub placed_codes : Codes counts.rows v₃
-    placed_codes i l = rw (all_placed, front_leaf i l) (leaves_codes inputs latches counts input state ready.input_codes ready.state_codes i l)
+    pub placed_codes : Codes g.counts.rows v₃
+    placed_codes i l = rw (all_placed, front_leaf i l) (leaves_codes g.inputs g.latches g.counts input state ready.input_codes ready.state_codes i l)
 
-    pub run_whole : rows3 rows v₃ counts.rows ++ drop counts.rows v₃ ≡ codes_of rows inputs latches counts input state ++ drop counts.rows values
+    pub run_whole : rows3 g.rows v₃ g.counts.rows ++ drop g.counts.rows v₃ ≡ run g input state ++ drop g.counts.rows values
     unfolding codes_of
     run_whole =
         rw all_placed
-        (ap₂ ◌++◌ (rows_same rows third (leaves inputs latches counts input state) counts.rows front_leaf)
-        (ap (drop counts.rows) placed_all ∙ drop_at (leaves inputs latches counts input state) (drop counts.rows values) counts.rows (leaves_long inputs latches counts input state)))
+        (ap₂ ◌++◌ (rows_same g.rows third (leaves g.inputs g.latches g.counts input state) g.counts.rows front_leaf)
+        (ap (drop g.counts.rows) placed_all ∙ drop_at (leaves g.inputs g.latches g.counts input state) (drop g.counts.rows values) g.counts.rows (leaves_long g.inputs g.latches g.counts input state)))
 
 -- ---- what the latches take
 module _ (latches codes : List ℕ) where

@@ -1,11 +1,11 @@
-// Three-valued codes: 0 false, 1 true, 2 unknown.
+// Three-valued codes: 0 false, 1 true, 2 unknown. They stay bytes, since a state lent to a call is one such byte a latch.
 ghost use Rattle.std.specs.Prelude.{◌≡◌, ◌<◌, length};
 ghost use Rattle.edge.specs.Edges.{id_of};
 ghost use Rattle.ternary_run.specs.Codes.{and3, not3, edge3, all_codes};
 
 pub const UNKNOWN: u8 = 2;
 
-// The nine answers of the three-valued AND, rows and columns in the order false, true, unknown.
+// The nine answers of the three-valued AND, rows and columns in the order false, true, unknown. A look-up needs no branch, and a run makes one for every gate.
 const AND3: [u8; 9] = [0, 0, 0, 0, 1, 2, 0, 2, 2];
 
 pub fn and3(a: u8, b: u8) -> u8
@@ -18,13 +18,11 @@ pub fn and3(a: u8, b: u8) -> u8
 fn not3(a: u8) -> u8
     ensures { result ≡ not3 a }
 {
-    if a == 0 {
-        return 1;
+    match a {
+        0 => 1,
+        1 => 0,
+        _ => a,
     }
-    if a == 1 {
-        return 0;
-    }
-    a
 }
 
 // The code of an edge, by its row's.
@@ -43,10 +41,5 @@ pub fn edge_code(values: &[u8], e: u32) -> u8
 pub fn all_codes(list: &[u8]) -> bool
     ensures { result ≡ all_codes list.now }
 {
-    for i in 0..list.len() {
-        if UNKNOWN < list[i] {
-            return false;
-        }
-    }
-    true
+    list.iter().all(|code| *code <= UNKNOWN)
 }

@@ -1,12 +1,14 @@
 // The run and the step, where everything is as it must be.
+// Memory is lent with room beyond the used entries, and a promise speaks of all that is lent: so how many are used stands beside a table.
 ghost use Rattle.std.specs.Prelude.{◌≡◌, ◌++◌, ◌+◌, ◌*◌, ◌≤◌, ◌<◌, length, drop};
 ghost use Rattle.graph.specs.Latches.{latch_words};
+ghost use Rattle.graph.specs.Graph.{lent_of};
 ghost use Rattle.ternary_run.specs.Codes.{Codes};
-ghost use Rattle.ternary_run.specs.Run.{blank, placed, input_row, latch_row, next_row, row3, rows3, codes_of, nexts};
+ghost use Rattle.ternary_run.specs.Run.{blank, placed, input_row, latch_row, next_row, row3, rows3, run, nexts};
 ghost use Rattle.ternary_run.specs.Steps.{Within, RunReady};
 
 use crate::codes::{UNKNOWN, and3, edge_code};
-use graph::Counts;
+use graph::Graph;
 use graph::latch::latch_at;
 use rows::kinds::is_gate;
 
@@ -15,29 +17,27 @@ fn blank(values: &mut [u8], used: usize)
     requires { (0 < used) × (used ≤ length values.old) }
     ensures { values.new ≡ blank used ++ drop used values.old }
 {
-    for i in 0..used {
-        values[i] = UNKNOWN;
-    }
+    values[..used].fill(UNKNOWN);
     values[0] = 0;
 }
 
-fn place_inputs(inputs: &[u32], n: usize, input: &[u8], values: &mut [u8])
-    requires { (n ≤ length inputs.now) × (n ≤ length input.now) × Within (input_row inputs.now) n (length values.old) }
-    ensures { values.new ≡ placed (input_row inputs.now) input.now n values.old }
+fn place_inputs(inputs: &[u32], input: &[u8], values: &mut [u8])
+    requires { (length inputs.now ≡ length input.now) × Within (input_row inputs.now) (length inputs.now) (length values.old) }
+    ensures { values.new ≡ placed (input_row inputs.now) input.now (length inputs.now) values.old }
 {
-    for i in 0..n {
-        let x = inputs[i] as usize;
-        values[x] = input[i];
+    for (x, code) in inputs.iter().zip(input) {
+        values[*x as usize] = *code;
     }
 }
 
-fn place_latches(latches: &[u32], n: usize, state: &[u8], values: &mut [u8])
-    requires { (latch_words * n ≤ length latches.now) × (n ≤ length state.now) × Within (latch_row latches.now) n (length values.old) }
-    ensures { values.new ≡ placed (latch_row latches.now) state.now n values.old }
+// A latch is three words, so it is read by its place, and not side by side with its code as an input is.
+fn place_latches(latches: &[u32], state: &[u8], values: &mut [u8])
+    requires { (latch_words * length state.now ≤ length latches.now) × Within (latch_row latches.now) (length state.now) (length values.old) }
+    ensures { values.new ≡ placed (latch_row latches.now) state.now (length state.now) values.old }
 {
-    for i in 0..n {
+    for (i, code) in state.iter().enumerate() {
         let x = latch_at(latches, i).input as usize;
-        values[x] = state[i];
+        values[x] = *code;
     }
 }
 
@@ -68,24 +68,15 @@ fn settle(rows: &[u32], used: usize, values: &mut [u8])
 }
 
 // The code of every used row.
-pub fn write_values(
-    rows: &[u32],
-    inputs: &[u32],
-    latches: &[u32],
-    counts: Counts,
-    input: &[u8],
-    state: &[u8],
-    values: &mut [u8],
-)
-    requires { RunReady rows.now inputs.now latches.now counts input.now state.now values.old }
-    ensures { values.new
-        ≡ codes_of rows.now inputs.now latches.now counts input.now state.now ++ drop counts.rows values.old }
+pub fn write_values(graph: &Graph, input: &[u8], state: &[u8], values: &mut [u8])
+    requires { RunReady (lent_of graph.now) input.now state.now values.old }
+    ensures { values.new ≡ run (lent_of graph.now) input.now state.now ++ drop graph.now.counts.rows values.old }
 {
-    let used = counts.rows;
-    blank(values, used);
-    place_inputs(inputs, counts.inputs, input, values);
-    place_latches(latches, counts.latches, state, values);
-    settle(rows, used, values);
+    let counts = graph.counts;
+    blank(values, counts.rows);
+    place_inputs(&graph.inputs[..counts.inputs], input, values);
+    place_latches(graph.latches, state, values);
+    settle(graph.rows, counts.rows, values);
 }
 
 // Each latch takes its next's value.

@@ -9,12 +9,13 @@ use lib.ListN.{length, drop, replicate, length-replicate}
 use lib.Seq.{drop-drop, drop-append-add}
 use lib.Dec.{leb, eqb}
 use borrow.Author.Tests.{leb-true, leb-false, eqb-true, eqb-false}
-use Rattle.edge.specs.declared.answer.Answer.{Answer}
-use Rattle.edge.specs.declared.answer.Answer.TheVariants.{BadSizes}
+use Rattle.std.specs.Prelude.{Result, Err}
+use Rattle.edge.specs.declared.answer.Refusal.{Refusal}
+use Rattle.edge.specs.declared.answer.Refusal.TheVariants.{BadSizes}
 use Rattle.edge.specs.declared.answer.Given.{Given}
-use Rattle.edge.specs.Answers.{done, bad_sizes, told, or_else}
+use Rattle.edge.specs.Answers.{done, bad_sizes, refused, told, or_else}
 use Rattle.edge.proofs.Tests.{both, both_true, false_true}
-use Rattle.edge.proofs.Answers.{stops_here, goes_past, none_of_two}
+use Rattle.edge.proofs.Answers.{stops_here, goes_past, none_of_two, not_done}
 use Rattle.graph.specs.Graph.{Lent, sizes_right, Sized}
 use Rattle.graph.specs.Check.{contents, cleared, CheckSeen, check_seen, check_call}
 use Rattle.graph.specs.WellFormed.{WellFormed}
@@ -82,11 +83,11 @@ module _ (a b : Lent) (marks : List ℕ) where
   abbrev cleared_two : List ℕ
   cleared_two = cleared (larger a.counts.rows b.counts.rows) marks
 
-  pub two_refused : sizes_of_two a b (length marks) ≡ false → check_seen BadSizes marks ≡ check_two_call a b marks
+  pub two_refused : sizes_of_two a b (length marks) ≡ false → check_seen (Err BadSizes) marks ≡ check_two_call a b marks
   unfolding check_two_call
   two_refused e = rw e
 
-  module _ (e : sizes_of_two a b (length marks) ≡ true) (r : Answer) (after : List ℕ) where
+  module _ (e : sizes_of_two a b (length marks) ≡ true) (r : Result Unit Refusal) (after : List ℕ) where
     seen : told r ≡ or_else (contents a) (contents b) → after ≡ cleared_two → check_seen r after ≡ check_two_call a b marks
     unfolding check_two_call
     seen t w = rw (e, t, w)
@@ -96,13 +97,15 @@ module _ (a b : Lent) (marks : List ℕ) where
       emptied : {now : List ℕ} → now ≡ cleared a.counts.rows old → now ≡ cleared_two
       emptied w = w ∙ (ap (cleared a.counts.rows) o ∙ cleared_both a.counts.rows b.counts.rows marks)
 
-      pub two_first : told r ≡ contents a → ((contents a).number ≡ 0 → ⊥) → after ≡ cleared a.counts.rows old → check_seen r after ≡ check_two_call a b marks
-      two_first t n w = seen (t ∙ sym (stops_here (contents a) (contents b) n)) (emptied w)
+      pub two_first : (f : Refusal) → r ≡ Err f → refused f ≡ contents a → after ≡ cleared a.counts.rows old → check_seen r after ≡ check_two_call a b marks
+      two_first f is t w =
+          let stopped : (contents a).number ≡ 0 → ⊥ = λ z. eqb-false _ _ (not_done f) (ap (λ (g : Given). g.number) t ∙ z) in
+          seen (ap (λ (q : Result Unit Refusal). told q) is ∙ (t ∙ sym (stops_here (contents a) (contents b) stopped))) (emptied w)
 
-      pub two_second : {between : List ℕ} → told r ≡ contents b → (contents a).number ≡ 0 → between ≡ cleared a.counts.rows old → after ≡ cleared b.counts.rows between
+      pub two_second : {between : List ℕ} → told r ≡ contents b → done ≡ contents a → between ≡ cleared a.counts.rows old → after ≡ cleared b.counts.rows between
           → check_seen r after ≡ check_two_call a b marks
       two_second t n u w =
-          seen (t ∙ sym (goes_past (contents a) (contents b) n))
+          seen (t ∙ sym (goes_past (contents a) (contents b) (ap (λ (g : Given). g.number) (sym n))))
           (w ∙ (ap (cleared b.counts.rows) (emptied u) ∙ cleared_fewer b.counts.rows (larger a.counts.rows b.counts.rows) marks (larger_second a.counts.rows b.counts.rows)))
 
   -- ---- each answer in its case

@@ -1,8 +1,8 @@
 -- What `check_two` answers: "with two graphs, all of 1 for both, then 2 and 3 for the first (`self`), then for the second".
 -- Assumes nothing.
-use Rattle.std.specs.Prelude.{ℕ, ◌≡◌, List, Bool, cond, ◌&&◌, length}
+use Rattle.std.specs.Prelude.{ℕ, ◌≡◌, List, Bool, cond, ◌&&◌, length, Result}
 use Rattle.std.proofs.Common.{ap}
-use Rattle.edge.specs.declared.answer.Answer.{Answer}
+use Rattle.edge.specs.declared.answer.Refusal.{Refusal}
 use Rattle.edge.specs.Answers.{done, bad_sizes, or_else, told_injective, determined}
 use Rattle.rows.specs.Rows.{larger}
 use Rattle.graph.specs.Graph.{Lent, sizes_right, Sized}
@@ -21,7 +21,7 @@ check_two_call a b marks =
     (record { given = bad_sizes; marks = marks })
 
 -- any two results that the promise allows are equal
-pub check_two_determined : (a b : Lent) (marks : List ℕ) (r s : Answer) (m n : List ℕ) → check_seen r m ≡ check_two_call a b marks → check_seen s n ≡ check_two_call a b marks → (r ≡ s) × (m ≡ n)
+pub check_two_determined : (a b : Lent) (marks : List ℕ) (r s : Result Unit Refusal) (m n : List ℕ) → check_seen r m ≡ check_two_call a b marks → check_seen s n ≡ check_two_call a b marks → (r ≡ s) × (m ≡ n)
 check_two_determined a b marks r s m n p q =
     let t = determined (check_two_call a b) marks (check_seen r m) (check_seen s n) p q in
     (told_injective r s (ap (λ (x : CheckSeen). x.given) t), ap (λ (x : CheckSeen). x.marks) t)

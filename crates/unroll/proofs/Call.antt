@@ -1,37 +1,33 @@
 -- Laws of the call: what it answers and writes.
 -- Assumes nothing.
-use Prim.Native.Nat.{ℕ, ◌*◌, ◌≤◌}
+use Prim.Native.Nat.{ℕ, ◌≤◌}
 use native.Mathlib.Omega.{arith}
 use mathlib.Core.Path.{◌≡◌, refl, sym, ap, ◌∙◌}
-use mathlib.Core.Bool.{Bool, true, false, cond, not}
+use mathlib.Core.Bool.{Bool, true, false, cond}
 use mathlib.Core.List.{List}
 use lib.ListN.{length}
-use lib.Dec.{eqb}
-use borrow.Author.Tests.{eqb-true, eqb-false}
-use Rattle.edge.specs.declared.answer.Answer.{Answer}
-use Rattle.edge.specs.declared.answer.Answer.TheVariants.{BadArgument}
+use Rattle.std.specs.Prelude.{Result, Ok, Err, Option, Some, None}
+use Rattle.std.specs.Option.{unwrap_or, ok_or}
+use Rattle.edge.specs.declared.answer.Refusal.{Refusal}
+use Rattle.edge.specs.declared.answer.Refusal.TheVariants.{BadArgument, NoRoom}
 use Rattle.edge.specs.declared.answer.Given.{Given}
-use Rattle.edge.specs.Answers.{done, bad_argument, no_room, told}
-use Rattle.edge.proofs.Answers.{stops_here, goes_past, none_of_two, test_done, test_refused}
-use Rattle.rows.specs.Sizes.{max_rows}
+use Rattle.edge.specs.Answers.{done, bad_argument, no_room, told, or_else, value_or}
+use Rattle.edge.proofs.Answers.{goes_past, none_of_two, not_done, was_done, was_refused}
 use Rattle.graph.specs.declared.Counts.{Counts}
-use Rattle.graph.specs.Latches.{latch_words}
 use Rattle.graph.specs.Graph.{Lent, Sized}
 use Rattle.graph.specs.Check.{cleared, CheckSeen, check_seen}
-use Rattle.graph.specs.WellFormed.{WellFormed}
 use Rattle.rows.specs.Rows.{larger}
 use Rattle.two_graphs.specs.Pair.{check_two_call, SizedTwo}
 use Rattle.two_graphs.proofs.Pair.{cleared_fewer, larger_second, exact_two}
-use Rattle.renumber.specs.declared.Rebuilt.{Rebuilt}
 use Rattle.frame.specs.Frame.{framed, frame_fits}
 use Rattle.frame.specs.Call.{FrameReady, FrameSeen, frame_seen, frame_call}
-use Rattle.renumber.specs.Seen.{RebuiltSeen, rebuilt_seen}
+use Rattle.renumber.specs.Seen.{rebuilt_seen}
 use Rattle.unroll.specs.Unroll.{same_start, unroll_checked, unroll_answer, unroll_call}
 use Rattle.unroll.proofs.Starting.{start_same}
 
--- the same graph with marks for itself alone
-pub alone : (g : Lent) (m n : ℕ) → Sized g m → g.counts.rows ≤ n → Sized g n
-alone g m n s h =
+-- the same graph with other marks that cover it
+pub covered : (g : Lent) {m n : ℕ} → Sized g m → g.counts.rows ≤ n → Sized g n
+covered g s h =
     record {
       rows = s.rows;
       marked = h;
@@ -45,21 +41,6 @@ alone g m n s h =
       fairness = s.fairness;
     }
 
--- the sizes of two graphs, as a loop over both wants them
-pub two_long :
-    (a b : Lent) (marks : ℕ) → SizedTwo a b marks → (2 * a.counts.rows ≤ length a.rows) × (2 * b.counts.rows ≤ length b.rows) × (b.counts.rows ≤ max_rows) ×
-    (latch_words * a.counts.latches ≤ length a.latches) × (latch_words * b.counts.latches ≤ length b.latches)
-two_long a b marks s = (
-  omega (arith, s.first.rows.fit.within),
-  omega (arith, s.second.rows.fit.within),
-  omega (arith, s.second.rows.fit.within, s.second.rows.fit.limited),
-  omega (arith, s.first.latches.within),
-  omega (arith, s.second.latches.within),
-)
-
-abbrev rebuilt_seen_of_lem : Given → Lent → List ℕ → RebuiltSeen
-rebuilt_seen_of_lem given graph marks = record { given = given; graph = graph; marks = marks }
-
 -- ---- what is accepted
 module _ (a b : Lent) (marks : List ℕ) where
   abbrev same : Given
@@ -71,7 +52,7 @@ module _ (a b : Lent) (marks : List ℕ) where
       let t = none_of_two (check_two_call a b marks).given same z in
       let s = (exact_two a b marks).accepted t.0 in
       record {
-        target = alone a (length marks) a.counts.rows s.0.first (omega arith);
+        target = covered a s.0.first (omega arith);
         from = s.0.second;
         target_formed = s.1;
         from_formed = s.2;
@@ -90,73 +71,64 @@ module _ (a b : Lent) (marks : List ℕ) where
       let e = (exact_two a b marks).clear ((exact_two a b marks).accepted t.0).0 in
       rw e (cleared_fewer b.counts.rows (larger a.counts.rows b.counts.rows) marks (larger_second a.counts.rows b.counts.rows))
 
-  -- ---- the check: r is what `check_two` answers, `after` are the marks, and d says whether it is done
-  module _ (r : Answer) {after : List ℕ} (seen : check_seen r after ≡ check_two_call a b marks) {d : Bool} (test : d ≡ eqb (told r).number 0) where
+  -- ---- the check: r is what `check_two` answers, and `after` are the marks
+  module _ (r : Result Unit Refusal) {after : List ℕ} (seen : check_seen r after ≡ check_two_call a b marks) where
     given : told r ≡ (check_two_call a b marks).given
     given = ap (λ (s : CheckSeen). s.given) seen
 
     kept : after ≡ (check_two_call a b marks).marks
     kept = ap (λ (s : CheckSeen). s.marks) seen
 
-    pub check_stops : not d ≡ true → check_seen r after ≡ unroll_checked a b marks
-    unfolding unroll_checked
-    check_stops h = rw (stops_here (check_two_call a b marks).given same (eqb-false (check_two_call a b marks).given.number 0 (test_refused given test h)), given, kept)
+    pub check_stops : {f : Refusal} → r ≡ Err f → check_seen (Err f) after ≡ unroll_checked a b marks
+    unfolding unroll_checked or_else
+    check_stops {f} e = rw (was_refused given e, not_done f, kept) refl
 
-    module _ (h : not d ≡ false) where
+    module _ (e : r ≡ Ok tt) where
       passed : (check_two_call a b marks).given.number ≡ 0
-      passed = eqb-true (check_two_call a b marks).given.number 0 (test_done given test h)
-
-      right : SizedTwo a b (length marks) × WellFormed a × WellFormed b
-      right = (exact_two a b marks).accepted passed
+      passed = ap (λ (g : Given). g.number) (was_done given e)
 
       pub both_sized : SizedTwo a b (length marks)
-      both_sized = right.0
+      both_sized = ((exact_two a b marks).accepted passed).0
 
-      pub check_same : {s : Bool} → s ≡ same_start a b → s ≡ true → check_seen r after ≡ unroll_checked a b marks
+      pub check_same : same_start a b ≡ true → check_seen (Ok tt) after ≡ unroll_checked a b marks
       unfolding unroll_checked
-      check_same e q =
-          let t = given ∙ (exact_two a b marks).accepts right.0 right.1 right.2 in
-          rw (goes_past (check_two_call a b marks).given same passed, sym e ∙ q, t, kept)
+      check_same h = rw (goes_past (check_two_call a b marks).given same passed, h, kept) refl
 
-      pub check_differs : {s : Bool} → s ≡ same_start a b → s ≡ false → check_seen BadArgument after ≡ unroll_checked a b marks
+      pub check_differs : same_start a b ≡ false → check_seen (Err BadArgument) after ≡ unroll_checked a b marks
       unfolding unroll_checked
-      check_differs e q = rw (goes_past (check_two_call a b marks).given same passed, sym e ∙ q, kept)
+      check_differs h = rw (goes_past (check_two_call a b marks).given same passed, h, kept) refl
 
   -- ---- the call: r is what the check answers
-  module _ (r : Answer) {after : List ℕ} (seen : check_seen r after ≡ unroll_checked a b marks) {d : Bool} (test : d ≡ eqb (told r).number 0) where
+  module _ (r : Result Unit Refusal) {after : List ℕ} (seen : check_seen r after ≡ unroll_checked a b marks) where
     told_so : told r ≡ (unroll_checked a b marks).given
     told_so = ap (λ (s : CheckSeen). s.given) seen
 
     left : after ≡ (unroll_checked a b marks).marks
     left = ap (λ (s : CheckSeen). s.marks) seen
 
-    abbrev rebuilt : Answer → Counts → Rebuilt
-    rebuilt answer n = record { answer = answer; counts = n }
+    pub unroll_refused : {f : Refusal} → r ≡ Err f → rebuilt_seen (Err f) a after ≡ unroll_call a b marks
+    unfolding unroll_call unroll_answer or_else
+    unroll_refused {f} e = rw (was_refused told_so e, not_done f, not_done f, left) refl
 
-    pub unroll_refused_lem : not d ≡ true → rebuilt_seen (rebuilt r a.counts) a after ≡ unroll_call a b marks
-    unfolding unroll_call unroll_answer
-    unroll_refused_lem h =
-        let t = test_refused told_so test h in
-        rw (stops_here (unroll_checked a b marks).given (cond (frame_fits a b) done no_room) (eqb-false (unroll_checked a b marks).given.number 0 t), t, told_so, left)
-
-    module _ (h : not d ≡ false) where
+    module _ (e : r ≡ Ok tt) where
       free : (unroll_checked a b marks).given.number ≡ 0
-      free = eqb-true (unroll_checked a b marks).given.number 0 (test_done told_so test h)
+      free = ap (λ (g : Given). g.number) (was_done told_so e)
 
       pub ready : {n : ℕ} → length marks ≡ n → FrameReady a b n
-      ready e = rw e at (checked_ready free)
+      ready l = rw l at (checked_ready free)
 
-      pub unroll_done : (answer : Answer) (n : Counts) {fits : Bool} {g : Lent} {last : List ℕ} → frame_seen fits g last ≡ frame_call a b after → told answer ≡ cond fits done no_room
-          → rebuilt_seen (rebuilt answer n) g last ≡ unroll_call a b marks
-      unfolding unroll_call unroll_answer frame_call
-      unroll_done answer n {fits} {g} {last} e w =
-          let f : fits ≡ frame_fits a b = ap (λ (s : FrameSeen). s.fits) e in
-          let q : g ≡ cond (frame_fits a b) (framed a b) a = ap (λ (s : FrameSeen). s.graph) e in
-          let m : last ≡ cleared b.counts.rows after = ap (λ (s : FrameSeen). s.marks) e in
-          rw (goes_past (unroll_checked a b marks).given (cond (frame_fits a b) done no_room) free, w, f, q, m ∙ (ap (cleared b.counts.rows) left ∙ still_clear free)) (by_room (frame_fits a b))
-        where
-          by_room : (t : Bool)
-              → record { given = cond t done no_room; graph = cond t (framed a b) a; marks = (unroll_checked a b marks).marks }
-              ≡ rebuilt_seen_of_lem (cond t done no_room) (cond (eqb (cond t done no_room).number 0) (framed a b) a) (unroll_checked a b marks).marks
-          by_room true = refl
-          by_room false = refl
+      -- o is what the step answers, and `lend` the target's words with the counts
+      module _ (lend : Counts → Lent) (n : Counts) {last : List ℕ} where
+        pub unroll_done : (o : Option Counts) → frame_seen o (lend (unwrap_or o n)) last ≡ frame_call a b after
+            → rebuilt_seen (ok_or o NoRoom) (lend (value_or n (ok_or o NoRoom))) last ≡ unroll_call a b marks
+        unfolding unroll_call unroll_answer frame_call
+        unroll_done (Some k) w =
+            let f : frame_fits a b ≡ true = sym (ap (λ (s : FrameSeen). s.fits) w) in
+            let g : lend k ≡ framed a b = ap (λ (s : FrameSeen). s.graph) w ∙ rw f in
+            let m : last ≡ cleared b.counts.rows after = ap (λ (s : FrameSeen). s.marks) w in
+            rw (goes_past (unroll_checked a b marks).given (cond (frame_fits a b) done no_room) free, f, g, m ∙ (ap (cleared b.counts.rows) left ∙ still_clear free)) refl
+        unroll_done None w =
+            let f : frame_fits a b ≡ false = sym (ap (λ (s : FrameSeen). s.fits) w) in
+            let g : lend n ≡ a = ap (λ (s : FrameSeen). s.graph) w ∙ rw f in
+            let m : last ≡ cleared b.counts.rows after = ap (λ (s : FrameSeen). s.marks) w in
+            rw (goes_past (unroll_checked a b marks).given (cond (frame_fits a b) done no_room) free, f, g, m ∙ (ap (cleared b.counts.rows) left ∙ still_clear free)) refl

@@ -1,17 +1,16 @@
 -- What `unroll` answers and writes.
 -- Assumes nothing.
-use Rattle.std.specs.Prelude.{ℕ, ◌*◌, ◌≡◌, List, Bool, cond, ◌&&◌, get_or, leb, eqb}
+use Rattle.std.specs.Prelude.{ℕ, ◌*◌, ◌≡◌, List, Bool, cond, ◌&&◌, get_or, leb, eqb, is_none}
 use Rattle.edge.specs.declared.answer.Given.{Given}
 use Rattle.edge.specs.Answers.{done, bad_argument, no_room, or_else}
 use Rattle.rows.specs.Reading.{if_done}
 use Rattle.graph.specs.declared.Counts.{Counts}
-use Rattle.graph.specs.Search.{first_bad, nothing_found}
+use Rattle.graph.specs.Search.{first_bad}
 use Rattle.graph.specs.Latches.{latch_at}
 use Rattle.graph.specs.Graph.{Lent}
 use Rattle.graph.specs.Check.{CheckSeen}
 use Rattle.two_graphs.specs.Pair.{check_two_call}
-use Rattle.renumber.specs.declared.Rebuilt.{Rebuilt}
-use Rattle.renumber.specs.Seen.{RebuiltSeen, rebuilt_seen, SameRebuilt, rebuilt_determined}
+use Rattle.renumber.specs.Seen.{Rebuilt, RebuiltSeen, rebuilt_seen, SameRebuilt, rebuilt_determined}
 use Rattle.frame.specs.Frame.{framed, frame_fits}
 
 -- "asks that the target's first rows equal `from`'s used rows": word by word
@@ -26,7 +25,7 @@ same_latch x y j = eqb (latch_at x j).input (latch_at y j).input
 unfoldable pub start_is : List ℕ → List ℕ → Counts → List ℕ → List ℕ → Counts → Bool
 start_is rows latches n rows2 latches2 m =
     (leb m.rows n.rows && eqb n.latches m.latches)
-    && (nothing_found (first_bad (same_word rows rows2) 0 (2 * m.rows)) && nothing_found (first_bad (same_latch latches latches2) 0 m.latches))
+    && (is_none (first_bad (same_word rows rows2) 0 (2 * m.rows)) && is_none (first_bad (same_latch latches latches2) 0 m.latches))
 
 abbrev pub same_start : Lent → Lent → Bool
 same_start a b = start_is a.rows a.latches a.counts b.rows b.latches b.counts

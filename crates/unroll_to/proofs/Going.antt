@@ -4,12 +4,13 @@ use Prim.Native.Nat.{ℕ, suc, ◌+◌, ◌-◌, ◌≤◌, ◌<◌}
 use native.Mathlib.Omega.{arith}
 use native.Mathlib.Nat.{sub-zero}
 use mathlib.Core.Path.{◌≡◌, refl, sym, ap, ◌∙◌}
-use mathlib.Core.Bool.{Bool, true, false, not, cond}
+use mathlib.Core.Bool.{true, false, cond}
 use mathlib.Core.List.{List}
 use lib.ListN.{length}
-use borrow.Author.Tests.{not-true, not-false}
+use Rattle.std.specs.Prelude.{Option, Some, None}
+use Rattle.std.specs.Option.{is_some, unwrap_or}
 use Rattle.graph.specs.declared.Counts.{Counts}
-use Rattle.graph.specs.Graph.{Lent, lent}
+use Rattle.graph.specs.Graph.{Lent}
 use Rattle.graph.specs.Check.{cleared}
 use Rattle.output.proofs.Fitting.{roomy}
 use Rattle.frame.specs.Frame.{framed, frame_fits}
@@ -23,51 +24,16 @@ pub ready_again : (a b : Lent) (marks : ℕ) → FrameReady a b marks → frame_
 unfolding frame_fits
 ready_again a b marks r f = frame_ready_again a b marks (record { ready = r; room = roomy a (framed a b).counts f })
 
--- no list changes its length
-pub record Lengths (a b : Lent) : Type 0 where
-  pub rows : length b.rows ≡ length a.rows
-  pub inputs : length b.inputs ≡ length a.inputs
-  pub latches : length b.latches ≡ length a.latches
-  pub constraints : length b.constraints ≡ length a.constraints
-  pub bads : length b.bads ≡ length a.bads
-  pub outputs : length b.outputs ≡ length a.outputs
-  pub ends : length b.ends ≡ length a.ends
-  pub edges : length b.edges ≡ length a.edges
-  pub fairness : length b.fairness ≡ length a.fairness
-
-lengths_none : (a : Lent) → Lengths a a
-lengths_none a = record { rows = refl; inputs = refl; latches = refl; constraints = refl; bads = refl; outputs = refl; ends = refl; edges = refl; fairness = refl }
-
-pub lengths_on : (a b c : Lent) → Lengths a b → Lengths b c → Lengths a c
-lengths_on a b c p q =
-    record {
-      rows = q.rows ∙ p.rows;
-      inputs = q.inputs ∙ p.inputs;
-      latches = q.latches ∙ p.latches;
-      constraints = q.constraints ∙ p.constraints;
-      bads = q.bads ∙ p.bads;
-      outputs = q.outputs ∙ p.outputs;
-      ends = q.ends ∙ p.ends;
-      edges = q.edges ∙ p.edges;
-      fairness = q.fairness ∙ p.fairness;
-    }
-
 -- j of n frames of b are finished, and a is the target then
 pub record Going (start b : Lent) (n : ℕ) (marks : List ℕ) (a : Lent) (j : ℕ) (now : List ℕ) : Type 0 where
   pub within : j ≤ n
-  pub long : Lengths start a
   pub ready : FrameReady a b (length marks)
   pub left : frames_on b (n - j) (frames j a) ≡ frames_on b n (frames 0 start)
   pub same : now ≡ marks
 
--- the words of a, with other counts
-abbrev with : Lent → Counts → Lent
-with a n = lent a.rows a.inputs a.latches a.constraints a.bads a.outputs a.ends a.edges a.fairness n
-
 module _ (start b : Lent) (n : ℕ) (marks : List ℕ) (pre : FramesReady start b marks) where
   pub starts : Going start b n marks start 0 marks
-  starts =
-      record { within = omega arith; long = lengths_none start; ready = pre.ready; left = ap (λ (k : ℕ). frames_on b k (frames 0 start)) (sub-zero n); same = refl }
+  starts = record { within = omega arith; ready = pre.ready; left = ap (λ (k : ℕ). frames_on b k (frames 0 start)) (sub-zero n); same = refl }
 
   module _ (a : Lent) (j : ℕ) {now : List ℕ} (k : Going start b n marks a j now) where
     pub may_add : FrameReady a b (length now)
@@ -80,13 +46,13 @@ module _ (start b : Lent) (n : ℕ) (marks : List ℕ) (pre : FramesReady start 
         let z : n - j ≡ 0 = omega arith in
         ap (λ (x : ℕ). frames x a) e ∙ (ap (λ (x : ℕ). frames_on b x (frames j a)) (sym z) ∙ k.left)
 
-    -- `add_frame` was called
-    module _ (l : j < n) {fits : Bool} {after : Lent} {last : List ℕ} (seen : frame_seen fits after last ≡ frame_call a b now) where
-      fits_is : fits ≡ frame_fits a b
+    -- `add_frame` was called: o is what it answers, and `lend` the target's words with the counts
+    module _ (l : j < n) (lend : Counts → Lent) (o : Option Counts) {last : List ℕ} (seen : frame_seen o (lend (unwrap_or o a.counts)) last ≡ frame_call a b now) where
+      fits_is : is_some o ≡ frame_fits a b
       unfolding frame_call
       fits_is = ap (λ (s : FrameSeen). s.fits) seen
 
-      graph_is : after ≡ cond fits (framed a b) a
+      graph_is : lend (unwrap_or o a.counts) ≡ cond (is_some o) (framed a b) a
       unfolding frame_call
       graph_is = ap (λ (s : FrameSeen). s.graph) seen ∙ rw fits_is
 
@@ -100,24 +66,21 @@ module _ (start b : Lent) (n : ℕ) (marks : List ℕ) (pre : FramesReady start 
       left_is : frames_on b (suc (n - (j + 1))) (frames j a) ≡ frames_on b n (frames 0 start)
       left_is = ap (λ (x : ℕ). frames_on b x (frames j a)) (sym one_left) ∙ k.left
 
-      pub stops : not fits ≡ true → frames j (with after a.counts) ≡ frames_on b n (frames 0 start)
+      pub stops : o ≡ None → frames j (lend a.counts) ≡ frames_on b n (frames 0 start)
       unfolding frames_on
       stops h =
-          let f = not-true fits h in
-          let g : after ≡ a = graph_is ∙ rw f in
-          let e : frame_fits a b ≡ false = sym fits_is ∙ f in
-          ap (λ (x : Lent). frames j (with x a.counts)) g ∙ (rw e at left_is)
+          let g : lend a.counts ≡ a = rw h at graph_is in
+          let e : false ≡ frame_fits a b = rw h at fits_is in
+          ap (λ (x : Lent). frames j x) g ∙ (rw (sym e) at left_is)
 
-      pub goes : not fits ≡ false → Lengths a after → Going start b n marks after (j + 1) last
+      pub goes : {x : Counts} → o ≡ Some x → Going start b n marks (lend x) (j + 1) last
       unfolding frames_on
-      goes h ls =
-          let f = not-false fits h in
-          let g : after ≡ framed a b = graph_is ∙ rw f in
-          let e : frame_fits a b ≡ true = sym fits_is ∙ f in
+      goes {x} h =
+          let g : lend x ≡ framed a b = rw h at graph_is in
+          let e : true ≡ frame_fits a b = rw h at fits_is in
           record {
             within = omega arith;
-            long = lengths_on start a after k.long ls;
-            ready = rw g (ready_again a b (length marks) k.ready e);
-            left = rw g (rw e at left_is);
+            ready = rw g (ready_again a b (length marks) k.ready (sym e));
+            left = rw g (rw (sym e) at left_is);
             same = marks_same;
           }

@@ -27,7 +27,7 @@ use Rattle.frame.specs.Meaning.{FrameAdded}
 use Rattle.frame.proofs.Meaning.{frame_added}
 use Rattle.unroll.specs.Unroll.{unroll_answer, unroll_call}
 use Rattle.unroll.specs.Meaning.{TwoGraphs}
-use Rattle.unroll.proofs.Call.{alone}
+use Rattle.unroll.proofs.Call.{covered}
 use Rattle.unroll.proofs.Meaning.{unroll_right}
 use Rattle.unroll_to.specs.Frames.{Frames, frames, frames_on, unrolled}
 use Rattle.unroll_to.specs.Call.{max_frames, unroll_asked, Ran, ran, frames_answer, frames_ran, emptied, unroll_ran, unroll_to_call}
@@ -85,7 +85,7 @@ module _ (a b : Lent) (m : ℕ) (r : FrameReady a b m) (marks : List ℕ) (l : a
   graphs : TwoGraphs a b (length marks)
   graphs =
       record {
-        sized = record { first = alone a a.counts.rows (length marks) r.target l; second = alone b m (length marks) r.from (omega (arith, r.start.more)) };
+        sized = record { first = covered a r.target l; second = covered b r.from (omega (arith, r.start.more)) };
         target = r.target_formed;
         from = r.from_formed;
       }

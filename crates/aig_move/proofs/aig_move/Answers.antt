@@ -1,30 +1,30 @@
 -- `aig_move::aig_move` meets its contract.
-use Rattle.graph.specs.Graph.{lent}
-use Rattle.aig_move.proofs.Call.{counts_stay, move_refused, counts_found, ready_to_write, move_done}
+use mathlib.Core.Path.{◌≡◌, ap, ◌∙◌}
+use Rattle.std.specs.Prelude.{Ok}
+use Rattle.edge.specs.Answers.{value_or}
+use Rattle.edge.proofs.Answers.{handed_on}
+use Rattle.graph.specs.Graph.{lent_of}
+use Rattle.output.specs.Tables.{lent_in}
+use Rattle.output.specs.Room.{room_in}
+use Rattle.renumber.specs.Steps.{found_seen}
+use Rattle.aig_move.specs.Steps.{move_checked}
+use Rattle.renumber.specs.Seen.{rebuilt_seen}
+use Rattle.aig_move.proofs.Call.{move_refused, counts_found, ready_to_write, move_done}
 use Rattle.aig_move.proofs.aig_move.Goals as goal
+
+pub returns-in_err-counts-clause-answer : goal.returns-in_err-counts-clause-answer
+returns-in_err-counts-clause-answer c =
+    let g = lent_of c.args.graph.now in
+    ap (λ r. rebuilt_seen r (lent_in c.args.tables.now (value_or g.counts r)) c.checked.new.marks) (handed_on _ _ c.from_residual.ensures.1) ∙
+    move_refused g (lent_in c.args.tables.now g.counts) c.args.marks.now _ _ (rw c.room.ensures at c.in_err-counts.ensures)
 
 pub write-requires : goal.write-requires
 write-requires c =
-    let graph = lent c.args.rows.now c.args.inputs.now c.args.latches.now c.args.constraints.now c.args.bads.now c.args.outputs.now c.args.ends.now c.args.edges.now c.args.fairness.now
-    c.args.counts in
-    let out = lent c.args.rows2.now c.args.inputs2.now c.args.latches2.now c.args.constraints2.now c.args.bads2.now c.args.outputs2.now c.args.ends2.now c.args.edges2.now
-    c.args.fairness2.now c.args.counts in
-    ready_to_write graph out c.args.marks.now c.checked-found.result c.checked-found.ensures c.is_done.ensures c.if-is_done.true
+    ready_to_write (lent_of c.args.graph.now) (lent_in c.args.tables.now c.args.graph.now.counts) c.args.marks.now _ _ (rw c.room.ensures at c.in_ok-counts.ensures)
 
-pub returns-then-is_done : goal.returns-then-is_done
-returns-then-is_done c =
-    let graph = lent c.args.rows.now c.args.inputs.now c.args.latches.now c.args.constraints.now c.args.bads.now c.args.outputs.now c.args.ends.now c.args.edges.now c.args.fairness.now
-    c.args.counts in
-    let out = lent c.args.rows2.now c.args.inputs2.now c.args.latches2.now c.args.constraints2.now c.args.bads2.now c.args.outputs2.now c.args.ends2.now c.args.edges2.now
-    c.args.fairness2.now c.args.counts in
-    rw (counts_found graph out c.args.marks.now c.checked-found.result c.checked-found.ensures c.is_done.ensures c.if-is_done.true)
-    (move_done graph out c.args.marks.now c.checked-found.result c.checked-found.ensures c.is_done.ensures c.if-is_done.true c.write.ensures)
-
-pub returns-else-is_done : goal.returns-else-is_done
-returns-else-is_done c =
-    let graph = lent c.args.rows.now c.args.inputs.now c.args.latches.now c.args.constraints.now c.args.bads.now c.args.outputs.now c.args.ends.now c.args.edges.now c.args.fairness.now
-    c.args.counts in
-    let out = lent c.args.rows2.now c.args.inputs2.now c.args.latches2.now c.args.constraints2.now c.args.bads2.now c.args.outputs2.now c.args.ends2.now c.args.edges2.now
-    c.args.fairness2.now c.args.counts in
-    rw (counts_stay graph out c.args.marks.now c.checked-found.result c.checked-found.ensures c.is_done.ensures c.if-is_done.false)
-    (move_refused graph out c.args.marks.now c.checked-found.result c.checked-found.ensures c.is_done.ensures c.if-is_done.false)
+pub returns-clause-answer : goal.returns-clause-answer
+returns-clause-answer c =
+    let g = lent_of c.args.graph.now in
+    let out = lent_in c.args.tables.now g.counts in
+    let found : found_seen g.counts (Ok c.in_ok-counts.counts) c.checked.new.marks ≡ move_checked g (room_in out) c.args.marks.now = rw c.room.ensures at c.in_ok-counts.ensures in
+    move_done g out c.args.marks.now _ _ found (ap (lent_in c.write.new.tables) (counts_found g out c.args.marks.now _ _ found) ∙ c.write.ensures.moved)

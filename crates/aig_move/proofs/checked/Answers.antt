@@ -1,36 +1,26 @@
 -- `aig_move::checked` meets its contract.
-use Rattle.graph.specs.Graph.{lent}
+use mathlib.Core.Path.{ap, ◌∙◌}
+use Rattle.edge.proofs.Answers.{handed_on}
+use Rattle.graph.specs.Graph.{lent_of}
+use Rattle.renumber.specs.Steps.{found_seen}
 use Rattle.aig_move.proofs.Call.{checked_refused, to_make, few_latches, no_room_lem, all_found}
 use Rattle.aig_move.proofs.checked.Goals as goal
 
-pub returns-then-not-is_done : goal.returns-then-not-is_done
-returns-then-not-is_done c =
-    let graph = lent c.args.rows.now c.args.inputs.now c.args.latches.now c.args.constraints.now c.args.bads.now c.args.outputs.now c.args.ends.now c.args.edges.now c.args.fairness.now
-    c.args.counts in
-    checked_refused graph c.args.room c.args.marks.now c.asked-answer.result c.asked-answer.ensures c.is_done.ensures c.if-not-is_done.true-raw
+pub returns-in_err-asked : goal.returns-in_err-asked
+returns-in_err-asked c =
+    ap (λ r. found_seen c.args.graph.now.counts r c.asked.new.marks) (handed_on _ _ c.from_residual.ensures.1) ∙
+    checked_refused (lent_of c.args.graph.now) c.args.room c.args.marks.now _ _ c.in_err-asked.ensures
 
 pub count_rows-requires : goal.count_rows-requires
-count_rows-requires c =
-    let graph = lent c.args.rows.now c.args.inputs.now c.args.latches.now c.args.constraints.now c.args.bads.now c.args.outputs.now c.args.ends.now c.args.edges.now c.args.fairness.now
-    c.args.counts in
-    to_make graph c.args.room c.args.marks.now c.asked-answer.result c.asked-answer.ensures c.is_done.ensures c.if-not-is_done.false-raw
+count_rows-requires c = to_make (lent_of c.args.graph.now) c.args.room c.args.marks.now _ c.in_ok-asked.ensures
 
 pub counts_with-need-requires : goal.counts_with-need-requires
-counts_with-need-requires c =
-    let graph = lent c.args.rows.now c.args.inputs.now c.args.latches.now c.args.constraints.now c.args.bads.now c.args.outputs.now c.args.ends.now c.args.edges.now c.args.fairness.now
-    c.args.counts in
-    few_latches graph c.args.room c.args.marks.now c.asked-answer.result c.asked-answer.ensures c.is_done.ensures c.if-not-is_done.false-raw
+counts_with-need-requires c = few_latches (lent_of c.args.graph.now) c.args.room c.args.marks.now _ c.in_ok-asked.ensures
 
-pub returns-then-not-fits : goal.returns-then-not-fits
-returns-then-not-fits c =
-    let graph = lent c.args.rows.now c.args.inputs.now c.args.latches.now c.args.constraints.now c.args.bads.now c.args.outputs.now c.args.ends.now c.args.edges.now c.args.fairness.now
-    c.args.counts in
-    no_room_lem graph c.args.room c.args.marks.now c.asked-answer.result c.asked-answer.ensures c.is_done.ensures c.if-not-is_done.false-raw c.count_rows.ensures c.counts_with-need.ensures
-    c.fits.ensures c.if-not-fits.true-raw
+pub returns-then-fits : goal.returns-then-fits
+returns-then-fits c =
+    all_found (lent_of c.args.graph.now) c.args.room c.args.marks.now _ c.in_ok-asked.ensures c.count_rows.ensures c.counts_with-need.ensures c.fits.ensures c.if-fits.true
 
-pub returns : goal.returns
-returns c =
-    let graph = lent c.args.rows.now c.args.inputs.now c.args.latches.now c.args.constraints.now c.args.bads.now c.args.outputs.now c.args.ends.now c.args.edges.now c.args.fairness.now
-    c.args.counts in
-    all_found graph c.args.room c.args.marks.now c.asked-answer.result c.asked-answer.ensures c.is_done.ensures c.if-not-is_done.false-raw c.count_rows.ensures c.counts_with-need.ensures
-    c.fits.ensures c.if-not-fits.false-raw
+pub returns-else-fits : goal.returns-else-fits
+returns-else-fits c =
+    no_room_lem (lent_of c.args.graph.now) c.args.room c.args.marks.now _ c.in_ok-asked.ensures c.count_rows.ensures c.counts_with-need.ensures c.fits.ensures c.if-fits.false

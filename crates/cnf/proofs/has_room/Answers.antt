@@ -3,7 +3,8 @@ use native.Mathlib.Omega.{arith}
 use Prim.Native.Nat.{ℕ}
 use mathlib.Core.Path.{refl, ap}
 use lib.Dec.{leb}
-use Rattle.root_marks.specs.Roots.{roots_in}
+use Rattle.graph.specs.Graph.{lent_of}
+use Rattle.root_marks.specs.Roots.{roots_of}
 use Rattle.cnf.proofs.Calling.{room_for_most, room_for_gates, gates_few}
 use Rattle.cnf.proofs.has_room.Goals as goal
 
@@ -18,22 +19,22 @@ overflow_add-most c = omega (arith, c.requires.clauses_ready.rows_few)
 
 pub returns-then-most-room : goal.returns-then-most-room
 returns-then-most-room c =
-    let roots = roots_in c.args.latches.now c.args.constraints.now c.args.bads.now c.args.outputs.now c.args.edges.now c.args.fairness.now c.args.counts in
-    let a = c.args in record { fits = room_for_most a.shortcuts a.rows.now roots a.marks.now a.room c.requires.clauses_ready c.if-most-room.true; kept = refl }
+    let roots = roots_of (lent_of c.args.graph.now) in
+    let a = c.args in record { fits = room_for_most a.shortcuts a.graph.now.rows.now roots a.marks.now a.room c.requires.clauses_ready c.if-most-room.true; kept = refl }
 
 pub gates_below-requires : goal.gates_below-requires
 gates_below-requires c = c.requires.clauses_ready.rows_there
 
 pub overflow_mul-gates_below : goal.overflow_mul-gates_below
-overflow_mul-gates_below c = omega (arith, gates_few c.args.rows.now c.gates_below.ensures c.requires.clauses_ready.rows_few)
+overflow_mul-gates_below c = omega (arith, gates_few c.args.graph.now.rows.now c.gates_below.ensures c.requires.clauses_ready.rows_few)
 
 pub overflow_add-gates_below : goal.overflow_add-gates_below
-overflow_add-gates_below c = omega (arith, gates_few c.args.rows.now c.gates_below.ensures c.requires.clauses_ready.rows_few)
+overflow_add-gates_below c = omega (arith, gates_few c.args.graph.now.rows.now c.gates_below.ensures c.requires.clauses_ready.rows_few)
 
 pub returns-then-gates_below-room : goal.returns-then-gates_below-room
 returns-then-gates_below-room c =
-    let roots = roots_in c.args.latches.now c.args.constraints.now c.args.bads.now c.args.outputs.now c.args.edges.now c.args.fairness.now c.args.counts in
-    let a = c.args in record { fits = room_for_gates a.shortcuts a.rows.now roots a.marks.now a.room c.gates_below.ensures c.if-gates_below-room.true; kept = refl }
+    let roots = roots_of (lent_of c.args.graph.now) in
+    let a = c.args in record { fits = room_for_gates a.shortcuts a.graph.now.rows.now roots a.marks.now a.room c.gates_below.ensures c.if-gates_below-room.true; kept = refl }
 
 pub put_words-need-requires : goal.put_words-need-requires
 put_words-need-requires c = record { roots_fit = c.requires.roots_fit; clauses_ready = c.requires.clauses_ready }

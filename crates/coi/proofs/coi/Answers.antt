@@ -1,69 +1,56 @@
 -- `coi::coi` meets its contract.
-use mathlib.Core.Path.{sym}
-use Rattle.graph.specs.Graph.{lent}
-use Rattle.coi.proofs.Call.{Parts, parts, coi_sizes, stack_room, coi_refused, coi_done}
+use mathlib.Core.Path.{◌≡◌, ap, ◌∙◌}
+use mathlib.Core.Bool.{true, ◌&&◌}
+use lib.ListN.{length}
+use Rattle.edge.proofs.Answers.{handed_on}
+use Rattle.graph.specs.Graph.{lent_of, sizes_right}
+use Rattle.root_marks.specs.Arguments.{every}
+use Rattle.root_marks.proofs.Arguments.{every_all}
+use Rattle.coi.specs.Coi.{used_row}
+use Rattle.coi.specs.Call.{coi_room, coi_seen}
+use Rattle.coi.proofs.Call.{Part, part, coi_sizes, coi_refused, coi_argument, coi_done}
 use Rattle.coi.proofs.coi.Goals as goal
-use Rattle.coi.proofs.coi.Goals.{Else-not-is_done}
+use Rattle.coi.proofs.coi.Goals.{Else-not-room-sizes_right, Else-not-ids_used}
+
+-- the sizes are right
+right : (c : Else-not-room-sizes_right) → let graph = lent_of c.args.graph.now in
+    coi_room graph c.args.ids.now (length c.args.flags.now) (length c.args.stack.now) && sizes_right graph (length c.args.marks.now) ≡ true
+right c = rw (← c.sizes_right.ensures) c.if-not-room-sizes_right.false
+
+-- the ids are used
+good : (c : Else-not-ids_used) → every (used_row c.args.graph.now.counts.rows) c.args.ids.now ≡ true
+good c = rw (← every_all (used_row c.args.graph.now.counts.rows) c.args.ids.now, ← c.ids_used.ensures) c.if-not-ids_used.false
 
 -- the call is accepted
-known :
-    (c : Else-not-is_done) → let graph = lent c.args.rows.now c.args.inputs.now c.args.latches.now c.args.constraints.now c.args.bads.now c.args.outputs.now c.args.ends.now c.args.edges.now
-    c.args.fairness.now c.args.counts in Parts graph c.args.ids.now c.args.flags.now c.checked-answer.new.marks c.clear.new.marks
+known : (c : Else-not-ids_used) → Part (lent_of c.args.graph.now) c.args.ids.now c.args.flags.now
 known c =
-    let graph = lent c.args.rows.now c.args.inputs.now c.args.latches.now c.args.constraints.now c.args.bads.now c.args.outputs.now c.args.ends.now c.args.edges.now c.args.fairness.now
-    c.args.counts in
-    parts graph c.args.ids.now c.args.flags.now c.args.marks.now c.args.stack.now c.checked-answer.result c.checked-answer.ensures c.is_bad_sizes.ensures c.if-is_bad_sizes.false
-    c.clear.ensures c.is_done.ensures c.if-not-is_done.false-raw
+    part (lent_of c.args.graph.now) c.args.ids.now c.args.flags.now c.args.marks.now c.args.stack.now (right (goal.at.Else-not-ids_used c).Else-not-room-sizes_right)
+    c.check_contents.result c.check_contents.ensures.result_value c.check_contents.ensures.marks_after c.clear.ensures c.in_ok-check_contents.was (good c)
 
-pub returns-then-is_bad_sizes : goal.returns-then-is_bad_sizes
-returns-then-is_bad_sizes c =
-    let graph = lent c.args.rows.now c.args.inputs.now c.args.latches.now c.args.constraints.now c.args.bads.now c.args.outputs.now c.args.ends.now c.args.edges.now c.args.fairness.now
-    c.args.counts in
-    coi_sizes graph c.args.ids.now c.args.flags.now c.args.marks.now c.args.stack.now c.checked-answer.result c.checked-answer.ensures c.is_bad_sizes.ensures c.if-is_bad_sizes.true
+pub returns-then-not-room-sizes_right : goal.returns-then-not-room-sizes_right
+returns-then-not-room-sizes_right c =
+    coi_sizes (lent_of c.args.graph.now) c.args.ids.now c.args.flags.now c.args.marks.now c.args.stack.now (rw (← c.sizes_right.ensures) c.if-not-room-sizes_right.true)
 
-pub clear-requires : goal.clear-requires
-clear-requires c =
-    let graph = lent c.args.rows.now c.args.inputs.now c.args.latches.now c.args.constraints.now c.args.bads.now c.args.outputs.now c.args.ends.now c.args.edges.now c.args.fairness.now
-    c.args.counts in
-    stack_room graph c.args.ids.now c.args.flags.now c.args.marks.now c.args.stack.now c.checked-answer.result c.checked-answer.ensures c.is_bad_sizes.ensures c.if-is_bad_sizes.false
+pub returns-in_err-check_contents : goal.returns-in_err-check_contents
+returns-in_err-check_contents c =
+    ap (λ r. coi_seen r c.args.flags.now c.check_contents.new.marks c.clear.new.marks) (handed_on _ _ c.from_residual.ensures.1) ∙
+    coi_refused (lent_of c.args.graph.now) c.args.ids.now c.args.flags.now c.args.marks.now c.args.stack.now (right (goal.at.returns-in_err-check_contents c).Else-not-room-sizes_right)
+    c.check_contents.result c.check_contents.ensures.result_value c.check_contents.ensures.marks_after c.clear.ensures c.in_err-check_contents.field-0.0 c.in_err-check_contents.was
 
-pub returns-then-not-is_done : goal.returns-then-not-is_done
-returns-then-not-is_done c =
-    let graph = lent c.args.rows.now c.args.inputs.now c.args.latches.now c.args.constraints.now c.args.bads.now c.args.outputs.now c.args.ends.now c.args.edges.now c.args.fairness.now
-    c.args.counts in
-    coi_refused graph c.args.ids.now c.args.flags.now c.args.marks.now c.args.stack.now c.checked-answer.result c.checked-answer.ensures c.is_bad_sizes.ensures c.if-is_bad_sizes.false
-    c.clear.ensures c.is_done.ensures c.if-not-is_done.true-raw
+pub returns-then-not-ids_used : goal.returns-then-not-ids_used
+returns-then-not-ids_used c =
+    coi_argument (lent_of c.args.graph.now) c.args.ids.now c.args.flags.now c.args.marks.now c.args.stack.now (right (goal.at.returns-then-not-ids_used c).Else-not-room-sizes_right)
+    c.check_contents.result c.check_contents.ensures.result_value c.check_contents.ensures.marks_after c.clear.ensures c.in_ok-check_contents.was
+    (rw (← every_all (used_row c.args.graph.now.counts.rows) c.args.ids.now, ← c.ids_used.ensures) c.if-not-ids_used.true)
 
-pub slice_bounds-write-end : goal.slice_bounds-write-end
-slice_bounds-write-end c = (known (goal.at.slice_bounds-write-end c).Else-not-is_done).flags_long
+pub write-requires-clause-coi_ready : goal.write-requires-clause-coi_ready
+write-requires-clause-coi_ready c = (known (goal.at.write-requires-clause-coi_ready c).Else-not-ids_used).known
 
-pub slice_bounds-write-end-2 : goal.slice_bounds-write-end-2
-slice_bounds-write-end-2 c = sym (known (goal.at.slice_bounds-write-end-2 c).Else-not-is_done).flags_part
-
-pub slice_bounds-write-end-3 : goal.slice_bounds-write-end-3
-slice_bounds-write-end-3 c = (known (goal.at.slice_bounds-write-end-3 c).Else-not-is_done).marks_long
-
-pub slice_bounds-write-end-4 : goal.slice_bounds-write-end-4
-slice_bounds-write-end-4 c = sym (known (goal.at.slice_bounds-write-end-4 c).Else-not-is_done).marks_part
-
-pub slice_bounds-write-end-5 : goal.slice_bounds-write-end-5
-slice_bounds-write-end-5 c = (known (goal.at.slice_bounds-write-end-5 c).Else-not-is_done).stack_long
-
-pub slice_bounds-write-end-6 : goal.slice_bounds-write-end-6
-slice_bounds-write-end-6 c = sym (known (goal.at.slice_bounds-write-end-6 c).Else-not-is_done).stack_part
-
-pub write-requires : goal.write-requires
-write-requires c =
-    record {
-      coi_ready = (known (goal.at.write-requires c).Else-not-is_done).known;
-      ids_value = (known (goal.at.write-requires c).Else-not-is_done).ids_used;
-      marks_value = (known (goal.at.write-requires c).Else-not-is_done).zeros;
-      stack_len = (known (goal.at.write-requires c).Else-not-is_done).same_long;
-    }
+pub write-requires-clause-ids_value : goal.write-requires-clause-ids_value
+write-requires-clause-ids_value c = (known (goal.at.write-requires-clause-ids_value c).Else-not-ids_used).ids_used
 
 pub returns : goal.returns
 returns c =
-    let graph = lent c.args.rows.now c.args.inputs.now c.args.latches.now c.args.constraints.now c.args.bads.now c.args.outputs.now c.args.ends.now c.args.edges.now c.args.fairness.now
-    c.args.counts in
-    coi_done graph c.args.ids.now c.args.flags.now c.args.marks.now c.args.stack.now c.checked-answer.result c.checked-answer.ensures c.is_bad_sizes.ensures c.if-is_bad_sizes.false
-    c.clear.ensures c.is_done.ensures c.if-not-is_done.false-raw c.write.ensures.flags_after c.write.ensures.marks_after c.write.ensures.stack_after
+    coi_done (lent_of c.args.graph.now) c.args.ids.now c.args.flags.now c.args.marks.now c.args.stack.now (right (goal.at.returns c).Else-not-room-sizes_right)
+    c.check_contents.result c.check_contents.ensures.result_value c.check_contents.ensures.marks_after c.clear.ensures c.in_ok-check_contents.was
+    (good (goal.at.returns c).Else-not-ids_used) c.write.ensures.flags_after c.write.ensures.marks_after c.write.ensures.stack_after

@@ -3,4 +3,4 @@ use Rattle.gates.proofs.Building.{gate_added_lem}
 use Rattle.gates.proofs.add_gate.Goals as goal
 
 pub returns : goal.returns
-returns c = gate_added_lem _ _ _ _ _ c.first.ensures c.second.ensures c.add_row.ensures
+returns c = gate_added_lem _ _ _ _ _ c.ordered-first.ensures c.add_row.ensures

@@ -6,6 +6,6 @@ pub returns-then-trivial : goal.returns-then-trivial
 unfolding add_step
 returns-then-trivial c = rw c.if-trivial.true c.add_gate.ensures
 
-pub returns : goal.returns
+pub returns-else-trivial : goal.returns-else-trivial
 unfolding add_step
-returns c = rw c.if-trivial.false c.add_and.ensures
+returns-else-trivial c = rw c.if-trivial.false c.add_and.ensures

@@ -1,40 +1,31 @@
 -- `merge::checked` meets its contract.
-use mathlib.Core.Path.{sym, ◌∙◌}
-use Rattle.graph.specs.Graph.{lent}
+use mathlib.Core.Path.{sym, ap, ◌∙◌}
+use Rattle.edge.proofs.Answers.{handed_on}
+use Rattle.graph.specs.Graph.{lent_of}
+use Rattle.graph.specs.Check.{check_seen}
+use Rattle.output.specs.Tables.{lent_in}
 use Rattle.merge.proofs.Call.{check_stops, both_addable, check_room, check_full}
 use Rattle.merge.proofs.checked.Goals as goal
 
-pub returns-then-not-is_done : goal.returns-then-not-is_done
-returns-then-not-is_done c =
-    let one = lent c.args.rows.now c.args.inputs.now c.args.latches.now c.args.constraints.now c.args.bads.now c.args.outputs.now c.args.ends.now c.args.edges.now c.args.fairness.now
-    c.args.counts in
-    let other = lent c.args.rows2.now c.args.inputs2.now c.args.latches2.now c.args.constraints2.now c.args.bads2.now c.args.outputs2.now c.args.ends2.now c.args.edges2.now
-    c.args.fairness2.now c.args.counts2 in
-    check_stops one other c.args.marks.now c.check_two-answer.result c.check_two-answer.ensures c.is_done.ensures c.if-not-is_done.true-raw
+pub returns-in_err-check_two : goal.returns-in_err-check_two
+returns-in_err-check_two c =
+    ap (λ r. check_seen r c.check_two.new.marks) (handed_on _ _ c.from_residual.ensures.1) ∙
+    check_stops (lent_in c.args.tables.now c.args.counts) (lent_of c.args.other.now) c.args.marks.now _ (rw c.graph.ensures at c.check_two.ensures) c.in_err-check_two.was
 
-pub sum-need-requires : goal.sum-need-requires
-sum-need-requires c =
-    let one = lent c.args.rows.now c.args.inputs.now c.args.latches.now c.args.constraints.now c.args.bads.now c.args.outputs.now c.args.ends.now c.args.edges.now c.args.fairness.now
-    c.args.counts in
-    let other = lent c.args.rows2.now c.args.inputs2.now c.args.latches2.now c.args.constraints2.now c.args.bads2.now c.args.outputs2.now c.args.ends2.now c.args.edges2.now
-    c.args.fairness2.now c.args.counts2 in
-    let whole = both_addable one other c.args.marks.now c.check_two-answer.result c.check_two-answer.ensures c.is_done.ensures c.if-not-is_done.false-raw in
-    record { addable = whole.0; addable_2 = whole.1 }
+pub sum-requires-clause-addable : goal.sum-requires-clause-addable
+sum-requires-clause-addable c =
+    (both_addable (lent_in c.args.tables.now c.args.counts) (lent_of c.args.other.now) c.args.marks.now _ (rw c.graph.ensures at c.check_two.ensures) c.in_ok-check_two.was).0
+
+pub sum-requires-clause-addable_2 : goal.sum-requires-clause-addable_2
+sum-requires-clause-addable_2 c =
+    (both_addable (lent_in c.args.tables.now c.args.counts) (lent_of c.args.other.now) c.args.marks.now _ (rw c.graph.ensures at c.check_two.ensures) c.in_ok-check_two.was).1
 
 pub returns-then-fits : goal.returns-then-fits
 returns-then-fits c =
-    let one = lent c.args.rows.now c.args.inputs.now c.args.latches.now c.args.constraints.now c.args.bads.now c.args.outputs.now c.args.ends.now c.args.edges.now c.args.fairness.now
-    c.args.counts in
-    let other = lent c.args.rows2.now c.args.inputs2.now c.args.latches2.now c.args.constraints2.now c.args.bads2.now c.args.outputs2.now c.args.ends2.now c.args.edges2.now
-    c.args.fairness2.now c.args.counts2 in
-    check_room one other c.args.marks.now c.check_two-answer.result c.check_two-answer.ensures c.is_done.ensures c.if-not-is_done.false-raw
-    (rw c.sum-need.ensures at (sym c.fits.ensures ∙ c.if-fits.true))
+    check_room (lent_in c.args.tables.now c.args.counts) (lent_of c.args.other.now) c.args.marks.now _ (rw c.graph.ensures at c.check_two.ensures) c.in_ok-check_two.was
+    (rw (c.room.ensures, c.sum.ensures) at (sym c.fits.ensures ∙ c.if-fits.true))
 
-pub returns : goal.returns
-returns c =
-    let one = lent c.args.rows.now c.args.inputs.now c.args.latches.now c.args.constraints.now c.args.bads.now c.args.outputs.now c.args.ends.now c.args.edges.now c.args.fairness.now
-    c.args.counts in
-    let other = lent c.args.rows2.now c.args.inputs2.now c.args.latches2.now c.args.constraints2.now c.args.bads2.now c.args.outputs2.now c.args.ends2.now c.args.edges2.now
-    c.args.fairness2.now c.args.counts2 in
-    check_full one other c.args.marks.now c.check_two-answer.result c.check_two-answer.ensures c.is_done.ensures c.if-not-is_done.false-raw
-    (rw c.sum-need.ensures at (sym c.fits.ensures ∙ c.if-fits.false))
+pub returns-else-fits : goal.returns-else-fits
+returns-else-fits c =
+    check_full (lent_in c.args.tables.now c.args.counts) (lent_of c.args.other.now) c.args.marks.now _ (rw c.graph.ensures at c.check_two.ensures) c.in_ok-check_two.was
+    (rw (c.room.ensures, c.sum.ensures) at (sym c.fits.ensures ∙ c.if-fits.false))

@@ -1,6 +1,4 @@
 -- `merge::fill` meets its contract.
-use native.Mathlib.Omega.{arith}
-use native.Mathlib.Nat.{le_antisymm}
 use mathlib.Core.Path.{refl}
 use Rattle.output.specs.Writing.{written}
 use Rattle.merge.proofs.Ready.{filled_turn}
@@ -10,18 +8,7 @@ use Rattle.merge.proofs.fill.Goals as goal
 
 pub loop-i-init : goal.loop-i-init
 unfolding written
-loop-i-init c = (search rules, refl, refl)
-
-pub shifted-requires : goal.shifted-requires
-shifted-requires c = omega (arith, c.requires.by_bound)
+loop-i-init c = (search rules, refl)
 
 pub loop-i-preserved : goal.loop-i-preserved
-loop-i-preserved c = (
-  search rules,
-  search rules,
-  filled_turn (shifted c.args.by) c.args.map.now c.loop-i.i c.loop-i.invariant.2
-      c.shifted.ensures,
-)
-
-pub returns : goal.returns
-returns c = rw (le_antisymm c.loop-i.invariant.0 c.loop-i-test.false) at c.loop-i.invariant.2
+loop-i-preserved c = (search rules, filled_turn (shifted c.args.by) c.args.map.now c.loop-i.i c.loop-i.invariant.1 c.shifted.ensures)

@@ -1,4 +1,4 @@
-use Prim.Native.Nat.{◌-◌, ◌≤◌}
+use Prim.Native.Nat.{◌≤◌}
 use mathlib.Core.Path.{◌≡◌}
 use lib.ListN.{length}
 use Rattle.output.specs.Writing.{written}
@@ -6,7 +6,4 @@ use Rattle.merge.specs.Merge.{shifted}
 use Rattle.merge.proofs.fill.Given as goal
 
 abbrev pub invariant-loop-i : goal.invariant-loop-i
-invariant-loop-i l = (l.i ≤ l.n) × (length l.map ≡ length l.initial.map) × (l.map ≡ written l.initial.map 0 (shifted l.by) l.i)
-
-abbrev pub decreases-loop-i : goal.decreases-loop-i
-decreases-loop-i l = l.n - l.i
+invariant-loop-i l = (l.i ≤ length l.map) × (l.map ≡ written l.initial.map 0 (shifted l.by) l.i)

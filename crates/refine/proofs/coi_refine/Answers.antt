@@ -1,40 +1,43 @@
 -- `refine::coi_refine` meets its contract.
-use native.Mathlib.Omega.{arith}
-use Rattle.graph.specs.Graph.{lent}
-use Rattle.refine.proofs.Call.{counts_stay, refine_refused, counts_found, ready_to_write, marks_cover, refine_done}
+use mathlib.Core.Path.{◌≡◌, ap, ◌∙◌}
+use Rattle.edge.specs.Answers.{value_or}
+use Rattle.edge.proofs.Answers.{handed_on}
+use Rattle.graph.specs.Graph.{lent_of}
+use Rattle.output.specs.Tables.{lent_in}
+use Rattle.output.specs.Room.{room_in}
+use lib.ListN.{length}
+use Rattle.renumber.specs.Seen.{listed_seen}
+use Rattle.renumber.specs.Steps.{found_seen}
+use Rattle.refine.specs.Steps.{refine_checked}
+use Rattle.refine.proofs.Call.{refine_refused, counts_found, ready_to_write, marks_cover, refine_done}
 use Rattle.refine.proofs.coi_refine.Goals as goal
+use Rattle.refine.proofs.coi_refine.Goals.{After-checked}
 
-pub returns-then-not-is_done : goal.returns-then-not-is_done
-returns-then-not-is_done c =
-    let graph = lent c.args.rows.now c.args.inputs.now c.args.latches.now c.args.constraints.now c.args.bads.now c.args.outputs.now c.args.ends.now c.args.edges.now c.args.fairness.now
-    c.args.counts in
-    let out = lent c.args.rows2.now c.args.inputs2.now c.args.latches2.now c.args.constraints2.now c.args.bads2.now c.args.outputs2.now c.args.ends2.now c.args.edges2.now
-    c.args.fairness2.now c.args.counts in
-    rw (counts_stay graph out c.args.old.now c.args.marks.now c.checked-found.result c.checked-found.ensures c.is_done.ensures c.if-not-is_done.true-raw)
-    (refine_refused graph out c.args.old.now c.args.marks.now c.checked-found.result c.checked-found.ensures c.is_done.ensures c.if-not-is_done.true-raw)
+-- what the check found
+found : (c : After-checked) → found_seen c.args.graph.now.counts c.checked.result c.checked.new.marks
+    ≡ refine_checked (lent_of c.args.graph.now) (room_in (lent_in c.args.tables.now c.args.graph.now.counts)) (length c.args.old.now) c.args.marks.now
+found c = rw c.room.ensures at c.checked.ensures
+
+pub returns-in_err-counts-clause-refined : goal.returns-in_err-counts-clause-refined
+returns-in_err-counts-clause-refined c =
+    ap (λ r. listed_seen r (lent_in c.args.tables.now (value_or c.args.graph.now.counts r)) c.args.old.now c.checked.new.marks) (handed_on _ _ c.from_residual.ensures.1) ∙
+    refine_refused (lent_of c.args.graph.now) (lent_in c.args.tables.now c.args.graph.now.counts) c.args.old.now c.args.marks.now c.checked.result
+    (found (goal.at.returns-in_err-counts-clause-refined c).After-checked) c.in_err-counts.was
 
 pub write-requires : goal.write-requires
 write-requires c =
-    let graph = lent c.args.rows.now c.args.inputs.now c.args.latches.now c.args.constraints.now c.args.bads.now c.args.outputs.now c.args.ends.now c.args.edges.now c.args.fairness.now
-    c.args.counts in
-    let out = lent c.args.rows2.now c.args.inputs2.now c.args.latches2.now c.args.constraints2.now c.args.bads2.now c.args.outputs2.now c.args.ends2.now c.args.edges2.now
-    c.args.fairness2.now c.args.counts in
-    ready_to_write graph out c.args.old.now c.args.marks.now c.checked-found.result c.checked-found.ensures c.is_done.ensures c.if-not-is_done.false-raw
+    ready_to_write (lent_of c.args.graph.now) (lent_in c.args.tables.now c.args.graph.now.counts) c.args.old.now c.args.marks.now c.checked.result
+    (found (goal.at.write-requires c).After-checked) c.in_ok-counts.was
 
 pub clear-requires : goal.clear-requires
 clear-requires c =
-    let graph = lent c.args.rows.now c.args.inputs.now c.args.latches.now c.args.constraints.now c.args.bads.now c.args.outputs.now c.args.ends.now c.args.edges.now c.args.fairness.now
-    c.args.counts in
-    let out = lent c.args.rows2.now c.args.inputs2.now c.args.latches2.now c.args.constraints2.now c.args.bads2.now c.args.outputs2.now c.args.ends2.now c.args.edges2.now
-    c.args.fairness2.now c.args.counts in
-    omega (arith, marks_cover graph out c.args.old.now c.args.marks.now c.checked-found.result c.checked-found.ensures c.is_done.ensures c.if-not-is_done.false-raw)
+    marks_cover (lent_of c.args.graph.now) (lent_in c.args.tables.now c.args.graph.now.counts) c.args.old.now c.args.marks.now c.checked.result
+    (found (goal.at.clear-requires c).After-checked) c.in_ok-counts.was
 
-pub returns : goal.returns
-returns c =
-    let graph = lent c.args.rows.now c.args.inputs.now c.args.latches.now c.args.constraints.now c.args.bads.now c.args.outputs.now c.args.ends.now c.args.edges.now c.args.fairness.now
-    c.args.counts in
-    let out = lent c.args.rows2.now c.args.inputs2.now c.args.latches2.now c.args.constraints2.now c.args.bads2.now c.args.outputs2.now c.args.ends2.now c.args.edges2.now
-    c.args.fairness2.now c.args.counts in
-    rw (counts_found graph out c.args.old.now c.args.marks.now c.checked-found.result c.checked-found.ensures c.is_done.ensures c.if-not-is_done.false-raw)
-    (refine_done graph out c.args.old.now c.args.marks.now c.checked-found.result c.checked-found.ensures c.is_done.ensures c.if-not-is_done.false-raw c.write.ensures.counts_after
-    c.write.ensures.after c.clear.ensures)
+pub returns-clause-refined : goal.returns-clause-refined
+returns-clause-refined c =
+    let g = lent_of c.args.graph.now in
+    let out = lent_in c.args.tables.now c.args.graph.now.counts in
+    let seen = found (goal.at.returns-clause-refined c).After-checked in
+    rw (counts_found g out c.args.old.now c.args.marks.now c.checked.result seen c.in_ok-counts.was)
+    (refine_done g out c.args.old.now c.args.marks.now c.checked.result seen c.in_ok-counts.was c.in_ok-counts.counts c.write.ensures.all_written c.write.ensures.old_written c.clear.ensures)

@@ -1,43 +1,11 @@
 -- `renumber::write_edges` meets its contract.
-use native.Mathlib.Omega.{arith}
-use native.Mathlib.Nat.{le_antisymm}
-use mathlib.Core.Path.{refl}
-use Rattle.output.specs.Writing.{written}
-use Rattle.renumber.specs.Renumber.{edges_of, by}
-use Rattle.output.proofs.Writing.{written_turn}
+use mathlib.Core.Path.{◌∙◌}
 use borrow.Author.Rules.{rules}
+use Rattle.output.proofs.Writing.{each_taken}
+use Rattle.renumber.specs.Renumber.{renamed, by}
 use Rattle.renumber.proofs.write_edges.Goals as goal
 
-pub loop-j-init : goal.loop-j-init
-unfolding written
-loop-j-init c = (search rules, refl, refl)
-
-pub offset_bounds-list-j : goal.offset_bounds-list-j
-offset_bounds-list-j c = omega (arith, c.requires.has)
-
-pub bounds-list-j : goal.bounds-list-j
-bounds-list-j c = omega (arith, c.requires.has)
-
-pub renamed-requires : goal.renamed-requires
-renamed-requires c = c.requires.mapped c.loop-j.j c.loop-j-test.true
-
-pub overflow_add-out : goal.overflow_add-out
-overflow_add-out c = omega (arith, c.requires.room)
-
-pub offset_bounds-out-at : goal.offset_bounds-out-at
-offset_bounds-out-at c = omega (arith, c.requires.room)
-
-pub bounds-out-at : goal.bounds-out-at
-bounds-out-at c = omega (arith, c.requires.room)
-
-pub loop-j-preserved : goal.loop-j-preserved
-loop-j-preserved c = (
-  search rules,
-  search rules,
-  written_turn c.args.out.now c.args.at
-      (edges_of (by c.args.map.now) c.args.list.now)
-      c.loop-j.j c.loop-j.invariant.2 c.renamed.ensures,
-)
-
 pub returns : goal.returns
-returns c = rw (le_antisymm c.loop-j.invariant.0 c.loop-j-test.false) at c.loop-j.invariant.2
+returns c =
+    let a = c.args in
+    c.write_each.ensures (renamed (by a.map.now)) (λ x r p. search rules) ∙ each_taken a.out.now a.at (renamed (by a.map.now)) a.list.now a.n c.requires.has

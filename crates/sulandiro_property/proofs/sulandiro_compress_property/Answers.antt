@@ -1,4 +1,5 @@
 -- `sulandiro_property::sulandiro_compress_property` meets its contract.
+use Rattle.edge.specs.Answers.{value_or}
 use Rattle.graph.specs.Graph.{lent}
 use Rattle.property.specs.Compress.{compress_call}
 use Rattle.sulandiro_words.specs.Words.{counts_in}
@@ -7,7 +8,7 @@ use Rattle.sulandiro_property.proofs.sulandiro_compress_property.Goals as goal
 
 pub returns : goal.returns
 returns c =
-    tells_listed c.args.told.now c.compress_property-compressed.result (lent _ _ _ _ _ _ _ _ _ c.compress_property-compressed.result.counts) _
+    tells_listed c.args.told.now c.compress_property-compressed.result (lent _ _ _ _ _ _ _ _ _ (value_or c.counts_in-n.result c.compress_property-compressed.result)) _
     c.tell_rebuilt.ensures _
     (compress_call
     (lent c.args.rows.now c.args.inputs.now c.args.latches.now c.args.constraints.now c.args.bads.now c.args.outputs.now

@@ -1,30 +1,33 @@
 -- `unroll::same_start` meets its contract.
-use native.Mathlib.Omega.{arith}
-use Rattle.unroll.proofs.Starting.{start_short, start_long, counts_fit}
+use borrow.Author.Tests.{le-leb, lt-leb}
+use mathlib.Core.Path.{◌∙◌}
+use Rattle.graph.specs.Graph.{lent_of}
+use Rattle.unroll.proofs.Starting.{asked, not_asked, start_short, start_long}
 use Rattle.unroll.proofs.same_start.Goals as goal
+use Rattle.unroll.proofs.same_start.Goals.{then-n-target, else-n-target, then-target-n, else-target-n}
 
-pub returns-then-not-counts2-counts : goal.returns-then-not-counts2-counts
-returns-then-not-counts2-counts c =
-    let a = c.args in
-    start_short a.rows.now a.latches.now a.counts a.rows2.now a.latches2.now a.counts2 c.if-not-counts2-counts.true-raw
+pub returns-then-eq : goal.returns-then-eq
+returns-then-eq c =
+    start_long (lent_of c.args.target.now) (lent_of c.args.graph.now) c.requires.target_sized c.requires.sized
+    (elim c.if-n-target.branch [
+      | then-n-target w ↦ asked (le-leb _ _ w.if-n-target.true) w.value-is
+      | else-n-target w ↦ not_asked _ (lt-leb _ _ w.if-n-target.false) w.value-is
+    ])
+    (elim c.if-target-n.branch [
+      | then-target-n w ↦ asked w.if-target-n.true (w.value-is ∙ w.eq.ensures)
+      | else-target-n w ↦ not_asked _ w.if-target-n.false w.value-is
+    ])
+    c.if-eq.true c.same_latches.ensures
 
-pub overflow_mul-counts2 : goal.overflow_mul-counts2
-overflow_mul-counts2 c = omega (arith, c.requires.rows_in_bounds.2)
-
-pub same_words-requires : goal.same_words-requires
-same_words-requires c =
-    let a = c.args in
-    let f = counts_fit a.rows.now a.latches.now a.counts a.rows2.now a.latches2.now a.counts2 c.if-not-counts2-counts.false-raw in
-    (omega (arith, f.0, c.requires.rows_in_bounds.0), omega (arith, c.requires.rows_in_bounds.1))
-
-pub same_latches-requires : goal.same_latches-requires
-same_latches-requires c =
-    let a = c.args in
-    let f = counts_fit a.rows.now a.latches.now a.counts a.rows2.now a.latches2.now a.counts2 c.if-not-counts2-counts.false-raw in
-    (omega (arith, f.1, c.requires.latches_in_bounds.0), omega (arith, c.requires.latches_in_bounds.1))
-
-pub returns : goal.returns
-returns c =
-    let a = c.args in
-    start_long a.rows.now a.latches.now a.counts a.rows2.now a.latches2.now a.counts2 c.if-not-counts2-counts.false-raw c.same_words.ensures
-    c.same_latches.ensures
+pub returns-else-eq : goal.returns-else-eq
+returns-else-eq c =
+    start_short (lent_of c.args.target.now) (lent_of c.args.graph.now) c.requires.target_sized c.requires.sized
+    (elim c.if-n-target.branch [
+      | then-n-target w ↦ asked (le-leb _ _ w.if-n-target.true) w.value-is
+      | else-n-target w ↦ not_asked _ (lt-leb _ _ w.if-n-target.false) w.value-is
+    ])
+    (elim c.if-target-n.branch [
+      | then-target-n w ↦ asked w.if-target-n.true (w.value-is ∙ w.eq.ensures)
+      | else-target-n w ↦ not_asked _ w.if-target-n.false w.value-is
+    ])
+    c.if-eq.false

@@ -1,30 +1,38 @@
 -- `unroll_to::unroll_to` meets its contract.
-use mathlib.Core.Path.{refl}
-use Rattle.graph.specs.Graph.{lent}
-use Rattle.unroll_to.proofs.Call.{unroll_refused_lem, ready_to_write, unroll_done}
+use mathlib.Core.Path.{sym, ◌∙◌}
+use Rattle.graph.specs.Graph.{lent_of}
+use Rattle.output.specs.Tables.{lent_in}
+use Rattle.unroll_to.specs.Steps.{UnrollReady}
+use Rattle.unroll_to.proofs.Starting.{copy_fits, frames_ready, all_unrolled}
+use Rattle.unroll_to.proofs.Call.{unroll_refused, unroll_full, ready_to_write, unroll_done}
 use Rattle.unroll_to.proofs.unroll_to.Goals as goal
+use Rattle.unroll_to.proofs.unroll_to.Goals.{Else-not-fits}
 
-pub returns-then-not-is_done : goal.returns-then-not-is_done
-returns-then-not-is_done c =
-    let graph = lent c.args.rows.now c.args.inputs.now c.args.latches.now c.args.constraints.now c.args.bads.now c.args.outputs.now c.args.ends.now c.args.edges.now c.args.fairness.now
-    c.args.counts in
-    let out = lent c.args.rows2.now c.args.inputs2.now c.args.latches2.now c.args.constraints2.now c.args.bads2.now c.args.outputs2.now c.args.ends2.now c.args.edges2.now
-    c.args.fairness2.now c.args.counts in
-    unroll_refused_lem graph out refl c.args.frames c.args.marks.now c.checked-found.result c.checked-found.ensures c.is_done.ensures c.if-not-is_done.true-raw
+pub returns-in-Err-clause-unrolled : goal.returns-in-Err-clause-unrolled
+returns-in-Err-clause-unrolled c =
+    let from = lent_of c.args.graph.now in
+    rw c.refused.ensures (unroll_refused from (lent_in c.args.tables.now from.counts) c.args.frames c.args.marks.now c.room-room.ensures _ c.asked.ensures c.in-Err.is)
 
-pub write-made-requires : goal.write-made-requires
-write-made-requires c =
-    let graph = lent c.args.rows.now c.args.inputs.now c.args.latches.now c.args.constraints.now c.args.bads.now c.args.outputs.now c.args.ends.now c.args.edges.now c.args.fairness.now
-    c.args.counts in
-    let out = lent c.args.rows2.now c.args.inputs2.now c.args.latches2.now c.args.constraints2.now c.args.bads2.now c.args.outputs2.now c.args.ends2.now c.args.edges2.now
-    c.args.fairness2.now c.args.counts in
-    ready_to_write graph out refl c.args.frames c.args.marks.now c.checked-found.result c.checked-found.ensures c.is_done.ensures c.if-not-is_done.false-raw
+pub returns-then-not-fits-clause-unrolled : goal.returns-then-not-fits-clause-unrolled
+returns-then-not-fits-clause-unrolled c =
+    let from = lent_of c.args.graph.now in
+    rw (c.refused-then-not-fits.ensures, c.no_counts.ensures)
+    (unroll_full from (lent_in c.args.tables.now from.counts) c.args.frames c.args.marks.now c.room-room.ensures _ c.asked.ensures c.in_default.is (sym c.fits.ensures ∙ c.if-not-fits.true))
 
-pub returns : goal.returns
-returns c =
-    let graph = lent c.args.rows.now c.args.inputs.now c.args.latches.now c.args.constraints.now c.args.bads.now c.args.outputs.now c.args.ends.now c.args.edges.now c.args.fairness.now
-    c.args.counts in
-    let out = lent c.args.rows2.now c.args.inputs2.now c.args.latches2.now c.args.constraints2.now c.args.bads2.now c.args.outputs2.now c.args.ends2.now c.args.edges2.now
-    c.args.fairness2.now c.args.counts in
-    unroll_done graph out refl c.args.frames c.args.marks.now c.checked-found.result c.checked-found.ensures c.is_done.ensures c.if-not-is_done.false-raw c.write-made.ensures.counts_after
-    c.write-made.ensures.marks_unchanged c.answer_of.ensures
+right : (c : Else-not-fits) → UnrollReady (lent_of c.args.graph.now) (lent_in c.args.tables.now c.args.graph.now.counts) c.asked.new.marks
+right c =
+    let from = lent_of c.args.graph.now in
+    ready_to_write from (lent_in c.args.tables.now from.counts) c.args.frames c.args.marks.now c.room-room.ensures _ c.asked.ensures c.in_default.is (sym c.fits.ensures ∙ c.if-not-fits.false)
+
+pub copy-requires : goal.copy-requires
+copy-requires c = copy_fits _ _ _ (right (goal.at.copy-requires c).Else-not-fits)
+
+pub add_frames-made-requires : goal.add_frames-made-requires
+add_frames-made-requires c = frames_ready _ _ _ (right (goal.at.add_frames-made-requires c).Else-not-fits) c.copy.ensures.copied
+
+pub returns-clause-unrolled : goal.returns-clause-unrolled
+returns-clause-unrolled c =
+    let from = lent_of c.args.graph.now in
+    unroll_done from (lent_in c.args.tables.now from.counts) c.args.frames c.args.marks.now c.room-room.ensures _ c.asked.ensures c.in_default.is (sym c.fits.ensures ∙ c.if-not-fits.false)
+    (all_unrolled _ _ _ (right (goal.at.returns-clause-unrolled c).Else-not-fits) c.copy.ensures.copied c.args.frames c.add_frames-made.ensures.frames_added)
+    c.add_frames-made.ensures.marks_unchanged c.answer_of.ensures

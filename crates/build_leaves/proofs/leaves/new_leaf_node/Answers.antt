@@ -1,44 +1,34 @@
 -- `build_leaves::leaves::new_leaf_node` meets its contract.
 use native.Mathlib.Omega.{arith}
-use mathlib.Core.List.{[]}
-use mathlib.Core.Path.{◌≡◌}
 use Prim.Native.Nat.{◌≤◌}
-use Rattle.edge.specs.Answers.{told}
-use Rattle.edge.proofs.Answers.{test_done}
 use Rattle.rows.specs.Sizes.{max_rows}
+use mathlib.Core.List.{[]}
+use Rattle.build_leaves.specs.Calls.{counted}
 use Rattle.build_leaves.specs.Leaves.{leaf_call, leaf_answer}
-use Rattle.build_leaves.proofs.Adding.{add_refused, add_done, leaf_fits}
+use Rattle.build_leaves.proofs.Answering.{add_refused, call_done}
+use Rattle.build_leaves.proofs.Adding.{leaf_fits}
 use Rattle.build_leaves.proofs.leaves.new_leaf_node.Goals as goal
-use Rattle.build_leaves.proofs.leaves.new_leaf_node.Goals.{After-answered-answer, Else-not-is_done}
+use Rattle.build_leaves.proofs.leaves.new_leaf_node.Goals.{In_ok-answered}
 
-judged : (c : After-answered-answer) →
-    told c.answered-answer.result ≡ leaf_answer c.args.rows.now c.args.counts.rows
+room : (c : In_ok-answered) → c.args.counts.rows ≤ max_rows
 unfolding leaf_answer
-judged c = rw (← c.rows_fit.ensures, ← c.free_row.ensures) c.answered-answer.ensures
+room c = leaf_fits c.args.rows.now c.args.counts.rows (rw (← c.rows_fit.ensures, ← c.free_row.ensures) c.in_ok-answered.ensures)
 
-room : (c : Else-not-is_done) → c.args.counts.rows ≤ max_rows
-unfolding leaf_answer
-room c =
-    let judged : told c.answered-answer.result ≡ leaf_answer c.args.rows.now c.args.counts.rows = rw (← c.rows_fit.ensures, ← c.free_row.ensures) c.answered-answer.ensures in
-    leaf_fits c.args.rows.now c.args.counts.rows (test_done judged c.is_done.ensures c.if-not-is_done.false-raw)
-
-pub returns-then-not-is_done : goal.returns-then-not-is_done
-unfolding leaf_call
-returns-then-not-is_done c =
-    add_refused c.args.rows.now [] c.args.counts _ (judged (goal.at.returns-then-not-is_done c).After-answered-answer) c.is_done.ensures c.if-not-is_done.true-raw _
-    c.not_added.ensures
+pub returns-in_err-answered : goal.returns-in_err-answered
+unfolding leaf_call leaf_answer
+returns-in_err-answered c =
+    add_refused c.args.rows.now [] c.args.counts _ _ (rw (← c.rows_fit.ensures, ← c.free_row.ensures) c.in_err-answered.ensures) _ c.from_residual.ensures.1
 
 pub add_row-requires : goal.add_row-requires
-add_row-requires c = omega (arith, room (goal.at.add_row-requires c).Else-not-is_done)
+add_row-requires c = omega (arith, room (goal.at.add_row-requires c).In_ok-answered)
 
-pub overflow_add-used : goal.overflow_add-used
-overflow_add-used c = omega (arith, room (goal.at.overflow_add-used c).Else-not-is_done)
+pub overflow_add-result : goal.overflow_add-result
+overflow_add-result c = omega (arith, room (goal.at.overflow_add-result c).In_ok-answered)
 
-pub overflow_cast-used : goal.overflow_cast-used
-overflow_cast-used c = omega (arith, room (goal.at.overflow_cast-used c).Else-not-is_done)
+pub overflow_cast-result : goal.overflow_cast-result
+overflow_cast-result c = omega (arith, room (goal.at.overflow_cast-result c).In_ok-answered)
 
 pub returns : goal.returns
-unfolding leaf_call
+unfolding leaf_call leaf_answer counted
 returns c =
-    add_done c.args.rows.now [] c.args.counts _ (judged (goal.at.returns c).After-answered-answer) c.is_done.ensures c.if-not-is_done.false-raw _ _ _ c.was_added.ensures
-    (rw c.add_row.ensures)
+    call_done c.args.rows.now [] c.args.counts _ (rw (← c.rows_fit.ensures, ← c.free_row.ensures) c.in_ok-answered.ensures) _ (rw c.add_row.ensures)

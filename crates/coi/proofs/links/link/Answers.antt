@@ -9,7 +9,7 @@ use borrow.Author.Rules.{rules}
 use Rattle.coi.proofs.links.link.Goals as goal
 
 pub loop-k-init : goal.loop-k-init
-loop-k-init c = (search rules, refl, links_none _ c.args.marks.now (length c.args.marks.now) c.requires.marks_value)
+loop-k-init c = (refl, links_none _ c.args.marks.now (length c.args.marks.now) c.requires.marks_value)
 
 pub latch_at-x-requires : goal.latch_at-x-requires
 latch_at-x-requires c = omega (arith, c.requires.latches_known.long)
@@ -26,11 +26,10 @@ bounds-marks-x c = omega (arith, c.requires.latches_known.inputs_used c.loop-k.k
 pub loop-k-preserved : goal.loop-k-preserved
 loop-k-preserved c = (
   search rules,
-  search rules,
   links_more _ _ _ _ (ap (λ (l : Latch). l.input) c.latch_at-x.ensures)
       (omega (arith, c.requires.latches_known.inputs_used c.loop-k.k c.loop-k-test.true, ap (λ (l : Latch). l.input) c.latch_at-x.ensures))
-      c.loop-k.invariant.2,
+      c.loop-k.invariant.1,
 )
 
 pub returns : goal.returns
-returns c = rw (le_antisymm c.loop-k.invariant.0 c.loop-k-test.false) at c.loop-k.invariant.2
+returns c = rw (le_antisymm c.loop-k.auto.k-end c.loop-k-test.false) at c.loop-k.invariant.1

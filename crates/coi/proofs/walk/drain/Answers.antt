@@ -33,18 +33,18 @@ pub loop-count-smaller : goal.loop-count-smaller
 loop-count-smaller c =
     omega (
       arith,
-      turn_falls _ _ _ _ _ c.loop-count-test.true c.loop-count.invariant.2 (steps_by c.args.rows.now c.args.latches.now c.args.marks.now)
-          (known_used c.args.rows.now c.args.latches.now c.args.marks.now (length c.args.flags.now) c.requires.known) _ _ _ c.step-count.ensures,
+      turn_falls _ _ _ _ _ c.loop-count-test.true c.loop-count.invariant.2 (steps_by c.args.graph.now.rows.now c.args.graph.now.latches.now c.args.marks.now)
+          (known_used c.args.graph.now.rows.now c.args.graph.now.latches.now c.args.marks.now (length c.args.flags.now) c.requires.known) _ _ _ c.step-count.ensures,
     )
 
 pub loop-count-preserved : goal.loop-count-preserved
 loop-count-preserved c = (
   search rules,
   search rules,
-  turn_going _ _ _ _ _ c.loop-count-test.true c.loop-count.invariant.2 (steps_by c.args.rows.now c.args.latches.now c.args.marks.now)
-      (known_used c.args.rows.now c.args.latches.now c.args.marks.now (length c.args.flags.now) c.requires.known) _ _ _ c.step-count.ensures,
-  turn_same _ _ _ _ _ c.loop-count-test.true c.loop-count.invariant.2 (steps_by c.args.rows.now c.args.latches.now c.args.marks.now)
-      (known_used c.args.rows.now c.args.latches.now c.args.marks.now (length c.args.flags.now) c.requires.known) _ _ _ c.step-count.ensures ∙ c.loop-count.invariant.3,
+  turn_going _ _ _ _ _ c.loop-count-test.true c.loop-count.invariant.2 (steps_by c.args.graph.now.rows.now c.args.graph.now.latches.now c.args.marks.now)
+      (known_used c.args.graph.now.rows.now c.args.graph.now.latches.now c.args.marks.now (length c.args.flags.now) c.requires.known) _ _ _ c.step-count.ensures,
+  turn_same _ _ _ _ _ c.loop-count-test.true c.loop-count.invariant.2 (steps_by c.args.graph.now.rows.now c.args.graph.now.latches.now c.args.marks.now)
+      (known_used c.args.graph.now.rows.now c.args.graph.now.latches.now c.args.marks.now (length c.args.flags.now) c.requires.known) _ _ _ c.step-count.ensures ∙ c.loop-count.invariant.3,
 )
 
 pub returns : goal.returns

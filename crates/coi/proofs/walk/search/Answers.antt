@@ -38,5 +38,5 @@ pub returns : goal.returns
 returns c =
     c.drain.ensures ∙ walked (length c.args.flags.now) _ c.args.stack.now
     (c.clear.ensures ∙ cleared_all c.args.flags.now (length c.args.flags.now) refl) c.requires.known.small c.requires.known.some
-    (steps_by c.args.rows.now c.args.latches.now c.args.marks.now) c.args.ids.now c.requires.ids_value c.visit-first.ensures
+    (steps_by c.args.graph.now.rows.now c.args.graph.now.latches.now c.args.marks.now) c.args.ids.now c.requires.ids_value c.visit-first.ensures
     c.visit_all-count.ensures

@@ -16,16 +16,16 @@ use Rattle.coi.proofs.walk.step.Goals as goal
 use Rattle.coi.proofs.walk.step.Goals.{Else-is_gate, Then-is_gate}
 
 gate : (c : Then-is_gate) →
-    gate_at c.args.rows.now c.args.i ≡ true
+    gate_at c.args.graph.now.rows.now c.args.i ≡ true
 gate c = sym c.is_gate.ensures ∙ c.if-is_gate.true
 
 -- both fanins stand below it
 fanins : (c : Then-is_gate) →
-    (word0 c.args.rows.now c.args.i / 2 < c.args.i) × (word1 c.args.rows.now c.args.i / 2 < c.args.i)
-fanins c = gate_below c.args.i (word0 c.args.rows.now c.args.i) (word1 c.args.rows.now c.args.i) (gate c)
+    (word0 c.args.graph.now.rows.now c.args.i / 2 < c.args.i) × (word1 c.args.graph.now.rows.now c.args.i / 2 < c.args.i)
+fanins c = gate_below c.args.i (word0 c.args.graph.now.rows.now c.args.i) (word1 c.args.graph.now.rows.now c.args.i) (gate c)
 
 no_gate : (c : Else-is_gate) →
-    gate_at c.args.rows.now c.args.i ≡ false
+    gate_at c.args.graph.now.rows.now c.args.i ≡ false
 no_gate c = sym c.is_gate.ensures ∙ c.if-is_gate.false
 
 pub overflow_cast-a : goal.overflow_cast-a
@@ -47,14 +47,15 @@ visit-requires c =
 pub returns-then-is_gate : goal.returns-then-is_gate
 returns-then-is_gate c =
     c.visit.ensures ∙
-    (ap (visited _) c.visit-n.ensures ∙ gate_steps_lem c.args.rows.now c.args.latches.now (get_or c.args.marks.now c.args.i 0) c.args.i
+    (ap (visited _) c.visit-n.ensures ∙ gate_steps_lem c.args.graph.now.rows.now c.args.graph.now.latches.now (get_or c.args.marks.now c.args.i 0) c.args.i
     (gate (goal.at.returns-then-is_gate c).Then-is_gate) _)
 
 pub overflow_cast-at : goal.overflow_cast-at
 overflow_cast-at c = omega (arith, c.type_inv.marks c.args.i)
 
 pub returns-then-at-eq0 : goal.returns-then-at-eq0
-returns-then-at-eq0 c = no_steps c.args.rows.now c.args.latches.now (get_or c.args.marks.now c.args.i 0) c.args.i (no_gate (goal.at.returns-then-at-eq0 c).Else-is_gate) c.if-at-eq0.true _
+returns-then-at-eq0 c =
+    no_steps c.args.graph.now.rows.now c.args.graph.now.latches.now (get_or c.args.marks.now c.args.i 0) c.args.i (no_gate (goal.at.returns-then-at-eq0 c).Else-is_gate) c.if-at-eq0.true _
 
 pub latch_at-l-requires : goal.latch_at-l-requires
 latch_at-l-requires c = omega (arith, c.requires.known.latch_there c.args.i (omega arith))
@@ -66,4 +67,4 @@ pub returns : goal.returns
 returns c =
     c.visit-2.ensures ∙
     (ap (λ (l : Latch). visited (id_of l.next) (work_of c.args.flags.now c.args.stack.now c.args.count)) c.latch_at-l.ensures ∙ latch_steps
-    c.args.rows.now c.args.latches.now (get_or c.args.marks.now c.args.i 0) c.args.i (no_gate (goal.at.returns c).Else-is_gate) c.if-at-eq0.false _)
+    c.args.graph.now.rows.now c.args.graph.now.latches.now (get_or c.args.marks.now c.args.i 0) c.args.i (no_gate (goal.at.returns c).Else-is_gate) c.if-at-eq0.false _)

@@ -1,13 +1,10 @@
 -- `frame::map::new_leaves` meets its contract.
 use lib.ListN.{length}
 use Rattle.frame.specs.Steps.{new_leaves}
-use Rattle.frame.proofs.Bounding.{leaves_start, leaves_ended, leaves_one, leaves_no, one_more, no_more}
+use Rattle.frame.proofs.Bounding.{leaves_ended, leaves_one, leaves_no, one_more, no_more}
 use borrow.Author.Rules.{rules}
 use Rattle.frame.proofs.map.new_leaves.Goals as goal
 use Rattle.frame.proofs.map.new_leaves.Goals.{else-from-i, then-from-i}
-
-pub loop-i-init : goal.loop-i-init
-loop-i-init c = (search rules, search rules, leaves_start c.args.from.now c.args.map.now (length c.args.map.now))
 
 pub loop-i-preserved : goal.loop-i-preserved
 loop-i-preserved c =

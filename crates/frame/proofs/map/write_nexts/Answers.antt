@@ -1,6 +1,4 @@
 -- `frame::map::write_nexts` meets its contract.
-use native.Mathlib.Omega.{arith}
-use native.Mathlib.Nat.{le_antisymm}
 use mathlib.Core.Path.{refl, ap, ◌∙◌}
 use Rattle.graph.specs.Latches.{latch_set}
 use Rattle.frame.specs.Map.{nexts_set}
@@ -11,12 +9,6 @@ use Rattle.frame.proofs.map.write_nexts.Goals as goal
 pub loop-j-init : goal.loop-j-init
 unfolding nexts_set
 loop-j-init c = (search rules, refl, refl)
-
-pub latch_at-requires : goal.latch_at-requires
-latch_at-requires c = omega (arith, c.requires.nexts_used.has)
-
-pub mapped-next-requires : goal.mapped-next-requires
-mapped-next-requires c = rw c.latch_at.ensures (c.requires.nexts_used.below c.loop-j.j c.loop-j-test.true)
 
 pub loop-j-preserved : goal.loop-j-preserved
 loop-j-preserved c = (
@@ -29,6 +21,3 @@ loop-j-preserved c = (
       c.latch_at-l.ensures c.latch_at.ensures
       c.mapped-next.ensures (c.write_latch.ensures ∙ ap (latch_set _ _) c.with_next.ensures),
 )
-
-pub returns : goal.returns
-returns c = rw (le_antisymm c.loop-j.invariant.0 c.loop-j-test.false) at c.loop-j.invariant.2

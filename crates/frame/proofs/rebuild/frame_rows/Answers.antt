@@ -1,25 +1,18 @@
 -- `frame::rebuild::frame_rows` meets its contract.
 use native.Mathlib.Omega.{arith}
-use native.Mathlib.Nat.{sub-zero}
-use mathlib.Core.Path.{refl, ◌∙◌}
+use mathlib.Core.Path.{◌∙◌}
 use lib.ListN.{length}
 use Rattle.frame.specs.Frame.{frame}
 use Rattle.frame.proofs.Framing.{rows_turn, rows_end, turned}
 use borrow.Author.Rules.{rules}
 use Rattle.frame.proofs.rebuild.frame_rows.Goals as goal
 
-pub loop-i-init : goal.loop-i-init
-loop-i-init c = (search rules, search rules, search rules, refl, refl, refl, rw sub-zero)
-
-pub frame_row-next-requires : goal.frame_row-next-requires
-frame_row-next-requires c = let l = c.loop-i in record { i_value = (c.requires.all_rows l.i c.loop-i-test.true, search rules); i_in_bounds = search rules; used_le_step_limit = search rules }
-
 pub loop-i-preserved : goal.loop-i-preserved
 loop-i-preserved c =
     let a = c.args in
     let l = c.loop-i in
-    let s = frame l.rows l.used l.inputs l.listed l.map in
-    let e = c.frame_row-next.ensures in
+    let s = frame l.rows l.reached.used l.inputs l.reached.inputs l.map in
+    let e = c.frame_row-reached.ensures in
     let t = turned a.from.now l.i s _ e in (
       search rules,
       omega (arith, t.most, l.invariant.1),
@@ -34,4 +27,4 @@ pub returns : goal.returns
 returns c =
     let a = c.args in
     let l = c.loop-i in
-    rows_end a.from.now (length a.map.now) l.i (frame l.rows l.used l.inputs l.listed l.map) _ l.invariant.6 c.loop-i-test.false
+    rows_end a.from.now (length a.map.now) l.i (frame l.rows l.reached.used l.inputs l.reached.inputs l.map) _ l.invariant.6 c.loop-i-test.false

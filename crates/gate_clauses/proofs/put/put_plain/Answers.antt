@@ -14,6 +14,6 @@ pub returns : goal.returns
 returns c =
     let a = c.args in record {
       place = refl;
-      written = λ _. put_plain a.clauses.now c.put_two.new.clauses c.put_two-2.new.clauses c.put_three.new.clauses a.at a.g a.a a.b c.not-ng.ensures
-          c.not-na.ensures c.not-nb.ensures c.put_two.ensures c.put_two-2.ensures c.put_three.ensures;
+      written = λ _. put_plain a.clauses.now c.put_clause.new.clauses c.put_clause-2.new.clauses c.put_clause-3.new.clauses a.at a.g a.a a.b c.not-ng.ensures
+          c.not-na.ensures c.not-nb.ensures c.put_clause.ensures c.put_clause-2.ensures c.put_clause-3.ensures;
     }

@@ -2,66 +2,60 @@
 use mathlib.Core.Path.{◌≡◌, sym, ap, ◌∙◌}
 use mathlib.Core.List.{[], ◌∷◌, ◌++◌}
 use Rattle.edge.specs.Answers.{told}
-use Rattle.edge.proofs.Answers.{test_done, test_refused}
+use Rattle.edge.proofs.Answers.{handed_on}
+use Rattle.graph.specs.Graph.{lent_of}
 use Rattle.graph.specs.Stages.{first_fault}
-use Rattle.graph.specs.Check.{edge_stage, justice_stages, list_stages}
-use Rattle.graph.proofs.Stages.{stage_stops, stage_goes, none_left, join_stops, join_goes}
+use Rattle.graph.specs.Check.{edge_stage, justice_stages, list_stages_of}
+use Rattle.graph.proofs.Stages.{edges_taken, edges_stop, edges_go, stops_within, goes_beyond}
 use Rattle.graph.proofs.Checked.{justice_entries}
 use Rattle.graph.proofs.contents.check_lists.Goals as goal
-use Rattle.graph.proofs.contents.check_lists.Goals.{After-check_justice-justice, Else-not-is_done}
+use Rattle.graph.proofs.contents.check_lists.Goals.{In_ok-check_edges, In_ok-check_edges-2, In_ok-check_edges-3}
 
--- the first three lists are passed
-past : (c : After-check_justice-justice)
-    → let a = c.args in
-    first_fault (list_stages a.constraints.now a.bads.now a.outputs.now a.ends.now a.edges.now a.fairness.now a.counts)
-    ≡ first_fault (justice_stages a.counts.rows a.ends.now a.counts.sets a.edges.now a.counts.edges ++ (edge_stage a.counts.rows 7 a.fairness.now a.counts.fairness ∷ []))
-past c =
-    stage_goes _ _ (sym c.first_bad_edge.ensures ∙ c.in-Nothing.is) ∙
-    (stage_goes _ _ (sym c.first_bad_edge-2.ensures ∙ c.in-Nothing-first_bad_edge.is) ∙ stage_goes _ _
-    (sym c.first_bad_edge-3.ensures ∙ c.in-Nothing-first_bad_edge-2.is))
+-- what is left of the lists behind the constraints, the bads, the outputs
+past_constraints : (c : In_ok-check_edges)
+    → let g = lent_of c.args.graph.now in
+    first_fault (list_stages_of g) ≡ first_fault
+    (edge_stage g.counts.rows 4 g.bads g.counts.bads ∷ (edge_stage g.counts.rows 5 g.outputs g.counts.outputs
+    ∷ (justice_stages g.counts.rows g.ends g.counts.sets g.edges g.counts.edges ++ (edge_stage g.counts.rows 7 g.fairness g.counts.fairness ∷ []))))
+past_constraints c = edges_go _ 3 _ _ c.requires.constraints _ c.in_ok-check_edges.ensures
 
--- and justice
-past_justice : (c : Else-not-is_done)
-    → let a = c.args in
-    first_fault (list_stages a.constraints.now a.bads.now a.outputs.now a.ends.now a.edges.now a.fairness.now a.counts)
-    ≡ first_fault (edge_stage a.counts.rows 7 a.fairness.now a.counts.fairness ∷ [])
-past_justice c =
-    let a = c.args in
-    stage_goes _ _ (sym c.first_bad_edge.ensures ∙ c.in-Nothing.is) ∙
-    (stage_goes _ _ (sym c.first_bad_edge-2.ensures ∙ c.in-Nothing-first_bad_edge.is) ∙ stage_goes _ _
-    (sym c.first_bad_edge-3.ensures ∙ c.in-Nothing-first_bad_edge-2.is)) ∙
-    join_goes _ (justice_entries a.counts.rows a.ends.now a.counts.sets a.edges.now a.counts.edges)
-    (test_done c.check_justice-justice.ensures c.is_done.ensures c.if-not-is_done.false-raw)
+past_bads : (c : In_ok-check_edges-2)
+    → let g = lent_of c.args.graph.now in
+    first_fault (list_stages_of g) ≡ first_fault
+    (edge_stage g.counts.rows 5 g.outputs g.counts.outputs
+    ∷ (justice_stages g.counts.rows g.ends g.counts.sets g.edges g.counts.edges ++ (edge_stage g.counts.rows 7 g.fairness g.counts.fairness ∷ [])))
+past_bads c = past_constraints (goal.at.In_ok-check_edges-2 c).In_ok-check_edges ∙ edges_go _ 4 _ _ c.requires.bads _ c.in_ok-check_edges-2.ensures
 
-pub returns-in-At : goal.returns-in-At
-returns-in-At c = ap told c.bad_entry.ensures ∙ sym (stage_stops _ _ (sym c.first_bad_edge.ensures ∙ c.in-At.is))
+past_outputs : (c : In_ok-check_edges-3)
+    → let g = lent_of c.args.graph.now in
+    first_fault (list_stages_of g)
+    ≡ first_fault (justice_stages g.counts.rows g.ends g.counts.sets g.edges g.counts.edges ++ (edge_stage g.counts.rows 7 g.fairness g.counts.fairness ∷ []))
+past_outputs c = past_bads (goal.at.In_ok-check_edges-3 c).In_ok-check_edges-2 ∙ edges_go _ 5 _ _ c.requires.outputs _ c.in_ok-check_edges-3.ensures
 
-pub returns-in-At-first_bad_edge : goal.returns-in-At-first_bad_edge
-returns-in-At-first_bad_edge c =
-    ap told c.bad_entry-in-At-first_bad_edge.ensures ∙ sym
-    (stage_goes _ _ (sym c.first_bad_edge.ensures ∙ c.in-Nothing.is) ∙ stage_stops _ _
-    (sym c.first_bad_edge-2.ensures ∙ c.in-At-first_bad_edge.is))
+pub returns-in_err-check_edges : goal.returns-in_err-check_edges
+returns-in_err-check_edges c =
+    ap told (handed_on _ _ c.from_residual.ensures.1) ∙ edges_stop _ 3 _ _ c.requires.constraints _ _ c.in_err-check_edges.ensures
 
-pub returns-in-At-first_bad_edge-2 : goal.returns-in-At-first_bad_edge-2
-returns-in-At-first_bad_edge-2 c =
-    ap told c.bad_entry-in-At-first_bad_edge-2.ensures ∙ sym
-    (stage_goes _ _ (sym c.first_bad_edge.ensures ∙ c.in-Nothing.is) ∙
-    (stage_goes _ _ (sym c.first_bad_edge-2.ensures ∙ c.in-Nothing-first_bad_edge.is) ∙ stage_stops _ _
-    (sym c.first_bad_edge-3.ensures ∙ c.in-At-first_bad_edge-2.is)))
+pub returns-in_err-check_edges-2 : goal.returns-in_err-check_edges-2
+returns-in_err-check_edges-2 c =
+    ap told (handed_on _ _ c.from_residual-in_err-check_edges-2.ensures.1) ∙ edges_stop _ 4 _ _ c.requires.bads _ _ c.in_err-check_edges-2.ensures ∙
+    sym (past_constraints (goal.at.returns-in_err-check_edges-2 c).In_ok-check_edges)
 
-pub returns-then-not-is_done : goal.returns-then-not-is_done
-returns-then-not-is_done c =
-    let a = c.args in
-    c.check_justice-justice.ensures ∙ sym
-    (past (goal.at.returns-then-not-is_done c).After-check_justice-justice ∙ join_stops (edge_stage a.counts.rows 7 a.fairness.now a.counts.fairness ∷ [])
-    (justice_entries a.counts.rows a.ends.now a.counts.sets a.edges.now a.counts.edges)
-    (test_refused c.check_justice-justice.ensures c.is_done.ensures c.if-not-is_done.true-raw))
+pub returns-in_err-check_edges-3 : goal.returns-in_err-check_edges-3
+returns-in_err-check_edges-3 c =
+    ap told (handed_on _ _ c.from_residual-in_err-check_edges-3.ensures.1) ∙ edges_stop _ 5 _ _ c.requires.outputs _ _ c.in_err-check_edges-3.ensures ∙
+    sym (past_bads (goal.at.returns-in_err-check_edges-3 c).In_ok-check_edges-2)
 
-pub returns-in-At-first_bad_edge-3 : goal.returns-in-At-first_bad_edge-3
-returns-in-At-first_bad_edge-3 c =
-    ap told c.bad_entry-in-At-first_bad_edge-3.ensures ∙ sym
-    (past_justice (goal.at.returns-in-At-first_bad_edge-3 c).Else-not-is_done ∙ stage_stops _ _ (sym c.first_bad_edge-4.ensures ∙ c.in-At-first_bad_edge-3.is))
+pub returns-in_err-check_justice : goal.returns-in_err-check_justice
+returns-in_err-check_justice c =
+    let g = lent_of c.args.graph.now in
+    ap told (handed_on _ _ c.from_residual-in_err-check_justice.ensures.1) ∙
+    sym (past_outputs (goal.at.returns-in_err-check_justice c).In_ok-check_edges-3 ∙
+    stops_within _ (justice_entries g.counts.rows g.ends g.counts.sets g.edges g.counts.edges) _ c.in_err-check_justice.ensures)
 
-pub returns-in-Nothing-first_bad_edge-3 : goal.returns-in-Nothing-first_bad_edge-3
-returns-in-Nothing-first_bad_edge-3 c =
-    sym (past_justice (goal.at.returns-in-Nothing-first_bad_edge-3 c).Else-not-is_done ∙ (stage_goes _ _ (sym c.first_bad_edge-4.ensures ∙ c.in-Nothing-first_bad_edge-3.is) ∙ none_left))
+pub returns : goal.returns
+returns c =
+    let g = lent_of c.args.graph.now in
+    c.check_edges-4.ensures ∙ edges_taken _ 7 _ _ c.requires.fairness ∙
+    sym (past_outputs (goal.at.returns c).In_ok-check_edges-3 ∙
+    goes_beyond _ (justice_entries g.counts.rows g.ends g.counts.sets g.edges g.counts.edges) c.in_ok-check_justice.ensures)

@@ -16,8 +16,8 @@ use Rattle.graph.proofs.justice.check_sets.Goals.{In-sets}
 
 -- the end of the set is good
 good_end : (c : In-sets) →
-    End c.args.sets c.args.n c.sets.s (start c.args.ends.now c.sets.s) (get_or c.args.ends.now c.sets.s 0)
-good_end c = end_at c.args.ends.now c.args.sets c.args.n c.requires.sets_value c.sets.s c.sets-test.true
+    End c.args.graph.now.counts.sets c.args.graph.now.counts.edges c.sets.s (start c.args.graph.now.ends.now c.sets.s) (get_or c.args.graph.now.ends.now c.sets.s 0)
+good_end c = end_at c.args.graph.now.ends.now c.args.graph.now.counts.sets c.args.graph.now.counts.edges c.requires.ends c.sets.s c.sets-test.true
 
 pub sets-init : goal.sets-init
 sets-init c = (search rules, refl, refl, rw sub-zero)
@@ -31,9 +31,6 @@ loop-k-init c = (search rules, omega (arith, (good_end (goal.at.loop-k-init c).I
 pub bounds-edges-k : goal.bounds-edges-k
 bounds-edges-k c = omega (arith, (good_end (goal.at.bounds-edges-k c).In-sets).within)
 
-pub overflow_add-k : goal.overflow_add-k
-overflow_add-k c = omega (arith, (good_end (goal.at.overflow_add-k c).In-sets).within)
-
 pub loop-k-preserved : goal.loop-k-preserved
 loop-k-preserved c = (
   search rules,
@@ -45,18 +42,20 @@ loop-k-preserved c = (
 pub sets-preserved : goal.sets-preserved
 sets-preserved c =
     let k = c.loop-k.invariant.3 in
-    (search rules, c.loop-k.invariant.2, sym (start_next c.args.ends.now c.sets.s), rw (← (le_antisymm c.loop-k.invariant.1 c.loop-k-test.false)) k)
+    (search rules, c.loop-k.invariant.2, sym (start_next c.args.graph.now.ends.now c.sets.s), rw (← (le_antisymm c.loop-k.invariant.1 c.loop-k-test.false)) k)
 
 pub returns-after-sets : goal.returns-after-sets
 returns-after-sets c =
     let done = le_antisymm c.sets.invariant.0 c.sets-test.false in
-    let all = c.sets.invariant.2 ∙ covered c.args.ends.now c.args.sets c.args.n c.requires.sets_value c.sets.s c.requires.sets_in_bounds.2 done in
+    let all = c.sets.invariant.2 ∙ covered c.args.graph.now.ends.now c.args.graph.now.counts.sets c.args.graph.now.counts.edges c.requires.ends c.sets.s c.requires.sets done in
     ap told c.sets.invariant.1 ∙ sym (stage_goes _ _ (c.sets.invariant.3 ∙ ended _ _ _ (omega (arith, all))) ∙ none_left)
 
 pub returns-then-not-is_used : goal.returns-then-not-is_used
 returns-then-not-is_used c =
-    let here = set_of_lem c.args.ends.now c.args.sets c.args.n c.requires.sets_value c.sets.s c.loop-k.k c.sets-test.true
+    let here = set_of_lem c.args.graph.now.ends.now c.args.graph.now.counts.sets c.args.graph.now.counts.edges c.requires.ends c.sets.s c.loop-k.k c.sets-test.true
     (omega (arith, c.sets.invariant.2)) c.loop-k-test.true in
-    let first = c.loop-k.invariant.3 ∙ stops _ _ _ (omega (arith, (good_end (goal.at.returns-then-not-is_used c).In-sets).within)) (sym c.is_used.ensures ∙ not-true _ c.if-not-is_used.true-raw) in
+    let first = c.loop-k.invariant.3 ∙ stops _ _ _ (omega (arith, (good_end (goal.at.returns-then-not-is_used c).In-sets).within))
+    (sym c.is_used.ensures ∙ not-true _ c.if-not-is_used.true-raw) in
     sym
-    (stage_stops (set_stage c.args.used c.args.ends.now c.args.sets c.args.edges.now c.args.n) _ first ∙ rw (here, ← c.sets.invariant.2) refl)
+    (stage_stops (set_stage c.args.graph.now.counts.rows c.args.graph.now.ends.now c.args.graph.now.counts.sets c.args.graph.now.edges.now c.args.graph.now.counts.edges) _ first ∙ rw
+    (here, ← c.sets.invariant.2) refl)

@@ -1,43 +1,19 @@
 -- `graph::leaves::check_leaves` meets its contract.
-use Prim.Native.Nat.{ℕ}
-use native.Mathlib.Omega.{arith}
-use mathlib.Core.Path.{◌≡◌, sym, ap, ◌∙◌}
-use Rattle.edge.specs.declared.answer.Answer.{Answer}
-use Rattle.edge.specs.declared.answer.Answer.TheVariants.{BadEntry}
-use Rattle.edge.specs.declared.answer.Given.{Given}
-use Rattle.edge.specs.Answers.{given, told}
-use Rattle.graph.proofs.Stages.{stage_stops, stage_goes, none_left}
-use borrow.Author.Rules.{rules}
+use mathlib.Core.Path.{sym, ap, ◌∙◌}
+use Rattle.edge.specs.Answers.{told}
+use Rattle.edge.proofs.Answers.{handed_on}
+use Rattle.graph.specs.Stages.{entry_found}
+use Rattle.graph.proofs.Stages.{entry_fault, entries_stop, entries_go, none_found}
 use Rattle.graph.proofs.leaves.check_leaves.Goals as goal
 
--- an entry is bad: then the marks stand for nothing in particular
-refused : {r : Answer} {list i : ℕ} {g : Given} {P Q : Type 0} → r ≡ BadEntry list i 0 → given 3 list i 0 ≡ g → P → (told r ≡ g) × (P × ((told r).number ≡ 0 → Q))
-refused {r} e f p =
-    let n : (told r).number ≡ 3 = ap (λ (x : Answer). (told x).number) e in
-    (ap told e ∙ f, (p, λ (z : (told r).number ≡ 0). absurd (omega arith)))
+pub first_bad_latch-first_bad-requires-clause-marks : goal.first_bad_latch-first_bad-requires-clause-marks
+first_bad_latch-first_bad-requires-clause-marks c = c.first_bad_input-first_bad.ensures.listed (none_found 1 _ c.in_ok-no_bad_entry.ensures)
 
-pub returns-in-At : goal.returns-in-At
-returns-in-At c =
-    let whole = refused c.bad_entry.ensures (sym (stage_stops _ _ (sym c.first_bad_input.ensures.value ∙ c.in-At.is)))
-    c.first_bad_input.ensures.marks_unchanged in record { result_value = whole.0; marks_unchanged = whole.1.0; marks_2 = whole.1.1 }
+pub returns-in_err-no_bad_entry-clause-result_value : goal.returns-in_err-no_bad_entry-clause-result_value
+returns-in_err-no_bad_entry-clause-result_value c =
+    ap told (handed_on _ _ c.from_residual.ensures.1) ∙ entries_stop 1 _ _ _ c.first_bad_input-first_bad.ensures.value _ c.in_err-no_bad_entry.ensures
 
-pub first_bad_latch-requires : goal.first_bad_latch-requires
-first_bad_latch-requires c = record { used_in_bounds = search rules; marks = c.first_bad_input.ensures.marks_2 c.in-Nothing.is }
-
-pub returns-in-At-first_bad_latch : goal.returns-in-At-first_bad_latch
-returns-in-At-first_bad_latch c =
-    let whole = refused c.bad_entry-in-At-first_bad_latch.ensures
-    (sym
-    (stage_goes _ _ (sym c.first_bad_input.ensures.value ∙ c.in-Nothing.is) ∙ stage_stops _ _
-    (sym c.first_bad_latch.ensures.value ∙ c.in-At-first_bad_latch.is)))
-    (c.first_bad_latch.ensures.marks_unchanged ∙ c.first_bad_input.ensures.marks_unchanged) in record { result_value = whole.0; marks_unchanged = whole.1.0; marks_2 = whole.1.1 }
-
-pub returns-in-Nothing-first_bad_latch : goal.returns-in-Nothing-first_bad_latch
-returns-in-Nothing-first_bad_latch c =
-    record {
-      result_value = sym
-          (stage_goes _ _ (sym c.first_bad_input.ensures.value ∙ c.in-Nothing.is) ∙
-          (stage_goes _ _ (sym c.first_bad_latch.ensures.value ∙ c.in-Nothing-first_bad_latch.is) ∙ none_left));
-      marks_unchanged = c.first_bad_latch.ensures.marks_unchanged ∙ c.first_bad_input.ensures.marks_unchanged;
-      marks_2 = λ _. c.first_bad_latch.ensures.marks_2 c.in-Nothing-first_bad_latch.is;
-    }
+pub returns-clause-result_value : goal.returns-clause-result_value
+returns-clause-result_value c =
+    c.no_bad_entry-2.ensures ∙ ap (entry_found 2) c.first_bad_latch-first_bad.ensures.value ∙ entry_fault 2 _ _ ∙
+    sym (entries_go 1 _ _ _ c.first_bad_input-first_bad.ensures.value c.in_ok-no_bad_entry.ensures)

@@ -14,7 +14,7 @@ use Rattle.graph.proofs.leaves.first_bad_input.Goals.{After-claim}
 
 -- the test of an input
 judged : (c : After-claim) →
-    c.claim.result ≡ good_input c.args.rows.now c.args.used c.args.inputs.now c.loop-i.i
+    c.claim.result ≡ good_input c.args.graph.now.rows.now c.args.graph.now.counts.rows c.args.graph.now.inputs.now c.loop-i.i
 judged c = claim_free _ _ _ _ _ _ c.claim.ensures.value c.claim.ensures.marks_after _ c.loop-i.invariant.3
 
 pub loop-i-init : goal.loop-i-init
@@ -23,17 +23,17 @@ loop-i-init c = (search rules, refl, refl, c.requires.marks, rw sub-zero)
 pub returns-then-not-claim : goal.returns-then-not-claim
 returns-then-not-claim c =
     let stopped = c.loop-i.invariant.4 ∙ stops _ _ _ c.loop-i-test.true (sym (judged (goal.at.returns-then-not-claim c).After-claim) ∙ not-true _ c.if-not-claim.true-raw) in
-    record { value = sym stopped; marks_unchanged = claim_beyond _ _ _ _ _ _ c.claim.ensures.value c.claim.ensures.marks_after ∙ c.loop-i.invariant.2; marks_2 = λ e. absurd (at_nothing e) }
+    record { value = sym stopped; marks_unchanged = claim_beyond _ _ _ _ _ _ c.claim.ensures.value c.claim.ensures.marks_after ∙ c.loop-i.invariant.2; listed = λ e. absurd (at_nothing e) }
 
 pub loop-i-preserved : goal.loop-i-preserved
 loop-i-preserved c =
     let a = c.args in
-    let h : c.loop-i.i < length a.inputs.now = omega arith in (
+    let h : c.loop-i.i < length a.graph.now.inputs.now = omega arith in (
       search rules,
       search rules,
       claim_beyond _ _ _ _ _ _ c.claim.ensures.value c.claim.ensures.marks_after ∙ c.loop-i.invariant.2,
       claim_marks _ _ _ _ _ _ c.claim.ensures.value c.claim.ensures.marks_after _ c.loop-i.invariant.3
-          (take_more a.inputs.now c.loop-i.i h) (omega arith) (not-false _ c.if-not-claim.false-raw),
+          (take_more a.graph.now.inputs.now c.loop-i.i h) (omega arith) (not-false _ c.if-not-claim.false-raw),
       c.loop-i.invariant.4 ∙ goes_on _ _ _ c.loop-i-test.true (sym (judged (goal.at.loop-i-preserved c).After-claim) ∙ not-false _ c.if-not-claim.false-raw),
     )
 
@@ -42,5 +42,5 @@ returns c =
     record {
       value = sym (c.loop-i.invariant.4 ∙ ended _ _ _ c.loop-i-test.false);
       marks_unchanged = c.loop-i.invariant.2;
-      marks_2 = λ _. rw (← (le_antisymm c.loop-i.invariant.0 c.loop-i-test.false)) c.loop-i.invariant.3;
+      listed = λ _. rw (← (le_antisymm c.loop-i.invariant.0 c.loop-i-test.false)) c.loop-i.invariant.3;
     }

@@ -18,14 +18,14 @@ use Rattle.graph.proofs.leaves.first_bad_latch.Goals.{After-latch_edges}
 
 -- the test of a latch
 judged : (c : After-latch_edges) →
-    c.claim.result && c.latch_edges.result ≡ good_latch c.args.rows.now c.args.used (take c.args.n c.args.inputs.now)
-    c.args.latches.now c.loop-i.i
+    c.claim.result && c.latch_edges.result ≡ good_latch c.args.graph.now.rows.now c.args.graph.now.counts.rows (take c.args.graph.now.counts.inputs c.args.graph.now.inputs.now)
+    c.args.graph.now.latches.now c.loop-i.i
 judged c =
     let a = c.args in
     ap₂ ◌&&◌
     (claim_free _ _ _ _ _ _ c.claim.ensures.value c.claim.ensures.marks_after _ c.loop-i.invariant.3 ∙ ap
-    (λ (l : Latch). free_leaf a.rows.now a.used (take a.n a.inputs.now ++ latch_inputs a.latches.now c.loop-i.i) l.input) c.latch_at-l.ensures)
-    (c.latch_edges.ensures ∙ ap (latch_edges a.used) c.latch_at-l.ensures)
+    (λ (l : Latch). free_leaf a.graph.now.rows.now a.graph.now.counts.rows (take a.graph.now.counts.inputs a.graph.now.inputs.now ++ latch_inputs a.graph.now.latches.now c.loop-i.i) l.input)
+    c.latch_at-l.ensures) (c.latch_edges.ensures ∙ ap (latch_edges a.graph.now.counts.rows) c.latch_at-l.ensures)
 
 pub loop-i-init : goal.loop-i-init
 unfolding latch_inputs
@@ -35,7 +35,7 @@ pub returns-then-not-claim-latch_edges : goal.returns-then-not-claim-latch_edges
 returns-then-not-claim-latch_edges c =
     let stopped = c.loop-i.invariant.4 ∙ stops _ _ _ c.loop-i-test.true
     (sym (judged (goal.at.returns-then-not-claim-latch_edges c).After-latch_edges) ∙ not-true _ c.if-not-claim-latch_edges.true-raw) in
-    record { value = sym stopped; marks_unchanged = claim_beyond _ _ _ _ _ _ c.claim.ensures.value c.claim.ensures.marks_after ∙ c.loop-i.invariant.2; marks_2 = λ e. absurd (at_nothing e) }
+    record { value = sym stopped; marks_unchanged = claim_beyond _ _ _ _ _ _ c.claim.ensures.value c.claim.ensures.marks_after ∙ c.loop-i.invariant.2; listed = λ e. absurd (at_nothing e) }
 
 pub loop-i-preserved : goal.loop-i-preserved
 loop-i-preserved c = (
@@ -43,7 +43,7 @@ loop-i-preserved c = (
   search rules,
   claim_beyond _ _ _ _ _ _ c.claim.ensures.value c.claim.ensures.marks_after ∙ c.loop-i.invariant.2,
   claim_marks _ _ _ _ _ _ c.claim.ensures.value c.claim.ensures.marks_after _ c.loop-i.invariant.3
-      (rw c.latch_at-l.ensures (inputs_more (take c.args.n c.args.inputs.now) c.args.latches.now c.loop-i.i)) (omega arith)
+      (rw c.latch_at-l.ensures (inputs_more (take c.args.graph.now.counts.inputs c.args.graph.now.inputs.now) c.args.graph.now.latches.now c.loop-i.i)) (omega arith)
       (both (not-false _ c.if-not-claim-latch_edges.false-raw)).0,
   c.loop-i.invariant.4 ∙ goes_on _ _ _ c.loop-i-test.true (sym (judged (goal.at.loop-i-preserved c).After-latch_edges) ∙ not-false _ c.if-not-claim-latch_edges.false-raw),
 )
@@ -53,5 +53,5 @@ returns c =
     record {
       value = sym (c.loop-i.invariant.4 ∙ ended _ _ _ c.loop-i-test.false);
       marks_unchanged = c.loop-i.invariant.2;
-      marks_2 = λ _. rw (← (le_antisymm c.loop-i.invariant.0 c.loop-i-test.false)) c.loop-i.invariant.3;
+      listed = λ _. rw (← (le_antisymm c.loop-i.invariant.0 c.loop-i-test.false)) c.loop-i.invariant.3;
     }

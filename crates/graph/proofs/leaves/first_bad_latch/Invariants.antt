@@ -9,8 +9,10 @@ use Rattle.graph.proofs.leaves.first_bad_latch.Given as goal
 
 abbrev pub invariant-loop-i : goal.invariant-loop-i
 invariant-loop-i l =
-    (l.i ≤ l.m) × (length l.marks ≡ length l.initial.marks) × (drop l.used l.marks ≡ drop l.used l.initial.marks) × Marks l.used (take l.n l.inputs ++ latch_inputs l.latches l.i) l.marks ×
-    (first_bad (good_latch l.rows l.used (take l.n l.inputs) l.latches) 0 l.m ≡ first_bad (good_latch l.rows l.used (take l.n l.inputs) l.latches) l.i (l.m - l.i))
+    (l.i ≤ l.graph.counts.latches) × (length l.marks ≡ length l.initial.marks) × (drop l.graph.counts.rows l.marks ≡ drop l.graph.counts.rows l.initial.marks) × Marks l.graph.counts.rows
+    (take l.graph.counts.inputs l.graph.inputs.now ++ latch_inputs l.graph.latches.now l.i) l.marks ×
+    (first_bad (good_latch l.graph.rows.now l.graph.counts.rows (take l.graph.counts.inputs l.graph.inputs.now) l.graph.latches.now) 0 l.graph.counts.latches ≡ first_bad
+    (good_latch l.graph.rows.now l.graph.counts.rows (take l.graph.counts.inputs l.graph.inputs.now) l.graph.latches.now) l.i (l.graph.counts.latches - l.i))
 
 abbrev pub decreases-loop-i : goal.decreases-loop-i
-decreases-loop-i l = l.m - l.i
+decreases-loop-i l = l.graph.counts.latches - l.i

@@ -1,6 +1,4 @@
 -- `kept_rows::copies::copy_row` meets its contract.
-use native.Mathlib.Omega.{arith}
-use lib.ListN.{length-set}
 use Rattle.renumber.specs.Renumber.{by}
 use Rattle.kept_rows.proofs.Copying.{row_is, first_ready, second_ready}
 use Rattle.kept_rows.proofs.copies.copy_row.Goals as goal
@@ -8,14 +6,8 @@ use Rattle.kept_rows.proofs.copies.copy_row.Goals as goal
 pub row_word-requires : goal.row_word-requires
 row_word-requires c = first_ready c.args.rows.now c.args.i c.args.map.now c.requires.small c.requires.known c.is_gate-gate.ensures
 
-pub bounds-out-k : goal.bounds-out-k
-bounds-out-k c = omega (arith, c.requires.place)
-
 pub row_word-requires-2 : goal.row_word-requires-2
 row_word-requires-2 c = second_ready c.args.rows.now c.args.i c.args.map.now c.requires.small c.requires.known c.is_gate-gate.ensures
-
-pub bounds-out-k-2 : goal.bounds-out-k-2
-bounds-out-k-2 c = rw length-set (omega (arith, c.requires.place))
 
 pub returns : goal.returns
 returns c =

@@ -1,23 +1,29 @@
 -- `property::compress::compress_property` meets its contract.
+use mathlib.Core.Path.{ap, ◌∙◌}
+use Rattle.edge.specs.Answers.{value_or}
+use Rattle.edge.proofs.Answers.{handed_on}
 use Rattle.graph.specs.Graph.{lent}
+use Rattle.renumber.specs.Seen.{listed_seen}
 use Rattle.property.proofs.Compressing.{compress_refused, compress_ready, compress_done}
 use Rattle.property.proofs.compress.compress_property.Goals as goal
 
-pub returns-then-not-is_done : goal.returns-then-not-is_done
-returns-then-not-is_done c =
-    let graph = lent c.args.rows.now c.args.inputs.now c.args.latches.now c.args.constraints.now c.args.bads.now c.args.outputs.now c.args.ends.now c.args.edges.now c.args.fairness.now
+pub returns-in_err-checked : goal.returns-in_err-checked
+returns-in_err-checked c =
+    let a = c.args in
+    let given = lent c.args.rows.now c.args.inputs.now c.args.latches.now c.args.constraints.now c.args.bads.now c.args.outputs.now c.args.ends.now c.args.edges.now c.args.fairness.now
     c.args.counts in
-    compress_refused graph c.args.old.now c.args.marks.now c.checked-answer.result c.checked-answer.ensures c.is_done.ensures c.if-not-is_done.true-raw
+    ap (λ r. listed_seen r (lent a.rows.now a.inputs.now a.latches.now a.constraints.now a.bads.now a.outputs.now a.ends.now a.edges.now a.fairness.now (value_or a.counts r)) a.old.now
+    c.checked.new.marks) (handed_on _ _ c.from_residual.ensures.1) ∙
+    compress_refused given a.old.now a.marks.now _ _ c.in_err-checked.ensures
 
 pub write-used-requires : goal.write-used-requires
 write-used-requires c =
-    let graph = lent c.args.rows.now c.args.inputs.now c.args.latches.now c.args.constraints.now c.args.bads.now c.args.outputs.now c.args.ends.now c.args.edges.now c.args.fairness.now
+    let given = lent c.args.rows.now c.args.inputs.now c.args.latches.now c.args.constraints.now c.args.bads.now c.args.outputs.now c.args.ends.now c.args.edges.now c.args.fairness.now
     c.args.counts in
-    compress_ready graph c.args.old.now c.args.marks.now c.checked-answer.result c.checked-answer.ensures c.is_done.ensures c.if-not-is_done.false-raw
+    compress_ready given c.args.old.now c.args.marks.now _ c.in_ok-checked.ensures
 
 pub returns : goal.returns
 returns c =
-    let graph = lent c.args.rows.now c.args.inputs.now c.args.latches.now c.args.constraints.now c.args.bads.now c.args.outputs.now c.args.ends.now c.args.edges.now c.args.fairness.now
+    let given = lent c.args.rows.now c.args.inputs.now c.args.latches.now c.args.constraints.now c.args.bads.now c.args.outputs.now c.args.ends.now c.args.edges.now c.args.fairness.now
     c.args.counts in
-    compress_done graph c.args.old.now c.args.marks.now c.checked-answer.result c.checked-answer.ensures c.is_done.ensures c.if-not-is_done.false-raw _ _ _ _ c.write-used.ensures
-    c.one_bad.ensures
+    compress_done given c.args.old.now c.args.marks.now _ c.in_ok-checked.ensures _ _ _ _ c.write-used.ensures c.one_bad.ensures

@@ -1,38 +1,35 @@
 -- `property::gate_init::checked` meets its contract.
-use mathlib.Core.Path.{refl}
+use mathlib.Core.Path.{refl, ap, ◌∙◌}
 use mathlib.Core.Bool.{true}
-use Rattle.graph.specs.Graph.{lent}
+use Rattle.edge.proofs.Answers.{handed_on}
+use Rattle.graph.specs.Graph.{lent_of}
+use Rattle.graph.specs.Check.{check_seen}
 use Rattle.property.specs.GateInit.{part_of, gate_room, gate_init_checked}
 use Rattle.property.proofs.Answering.{check_stops, check_right, check_room, check_full}
 use Rattle.property.proofs.Constraining.{gate_room_lem, steps_ready}
 use Rattle.property.proofs.gate_init.checked.Goals as goal
 
-pub returns-then-not-is_done : goal.returns-then-not-is_done
+pub returns-in_err-check : goal.returns-in_err-check
 unfolding gate_init_checked
-returns-then-not-is_done c =
-    let graph = lent c.args.rows.now c.args.inputs.now c.args.latches.now c.args.constraints.now c.args.bads.now c.args.outputs.now c.args.ends.now c.args.edges.now c.args.fairness.now
-    c.args.counts in
-    check_stops true (gate_room (part_of graph)) graph c.args.marks.now refl c.check-answer.result c.check-answer.ensures c.is_done.ensures c.if-not-is_done.true-raw
+returns-in_err-check c =
+    let g = lent_of c.args.graph.now in
+    ap (λ r. check_seen r c.check.new.marks) (handed_on _ _ c.from_residual.ensures.1) ∙
+    check_stops true (gate_room (part_of g)) g c.args.marks.now refl _ _ c.in_err-check.ensures
 
 pub need-need-requires : goal.need-need-requires
 need-need-requires c =
-    let graph = lent c.args.rows.now c.args.inputs.now c.args.latches.now c.args.constraints.now c.args.bads.now c.args.outputs.now c.args.ends.now c.args.edges.now c.args.fairness.now
-    c.args.counts in
-    let r = check_right true (gate_room (part_of graph)) graph c.args.marks.now refl c.check-answer.result c.check-answer.ensures c.is_done.ensures c.if-not-is_done.false-raw in
-    steps_ready graph _ r.0 r.1
+    let g = lent_of c.args.graph.now in
+    let r = check_right true (gate_room (part_of g)) g c.args.marks.now refl _ c.in_ok-check.ensures in
+    steps_ready g _ r.0 r.1
 
 pub returns-then-need-counts : goal.returns-then-need-counts
 unfolding gate_init_checked
 returns-then-need-counts c =
-    let graph = lent c.args.rows.now c.args.inputs.now c.args.latches.now c.args.constraints.now c.args.bads.now c.args.outputs.now c.args.ends.now c.args.edges.now c.args.fairness.now
-    c.args.counts in
-    check_room true (gate_room (part_of graph)) graph c.args.marks.now refl c.check-answer.result c.check-answer.ensures c.is_done.ensures c.if-not-is_done.false-raw
-    (gate_room_lem (part_of graph) c.need-need.ensures c.if-need-counts.true)
+    let g = lent_of c.args.graph.now in
+    check_room true (gate_room (part_of g)) g c.args.marks.now refl _ c.in_ok-check.ensures (gate_room_lem (part_of g) c.need-need.ensures c.if-need-counts.true)
 
-pub returns : goal.returns
+pub returns-else-need-counts : goal.returns-else-need-counts
 unfolding gate_init_checked
-returns c =
-    let graph = lent c.args.rows.now c.args.inputs.now c.args.latches.now c.args.constraints.now c.args.bads.now c.args.outputs.now c.args.ends.now c.args.edges.now c.args.fairness.now
-    c.args.counts in
-    check_full true (gate_room (part_of graph)) graph c.args.marks.now refl c.check-answer.result c.check-answer.ensures c.is_done.ensures c.if-not-is_done.false-raw
-    (gate_room_lem (part_of graph) c.need-need.ensures c.if-need-counts.false)
+returns-else-need-counts c =
+    let g = lent_of c.args.graph.now in
+    check_full true (gate_room (part_of g)) g c.args.marks.now refl _ c.in_ok-check.ensures (gate_room_lem (part_of g) c.need-need.ensures c.if-need-counts.false)

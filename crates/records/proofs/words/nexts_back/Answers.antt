@@ -1,23 +1,15 @@
 -- `records::words::nexts_back` meets its contract.
 use native.Mathlib.Omega.{arith}
 use native.Mathlib.Nat.{le_antisymm}
-use Rattle.std.proofs.Common.{length, ap, ◌∙◌, ◌/◌}
-use Rattle.graph.specs.Latches.{latch_words}
+use Rattle.std.proofs.Common.{ap, ◌∙◌}
 use Rattle.records.specs.Table.{take_next}
-use Rattle.records.proofs.Laying.{copied_within}
-use Rattle.records.proofs.Nexting.{sofar, sofar_copied}
+use Rattle.records.proofs.Nexting.{sofar, all_back_lem, none_back}
 use Rattle.records.proofs.words.nexts_back.Goals as goal
 
-pub latch_at-l-requires : goal.latch_at-l-requires
-latch_at-l-requires c = omega (arith, copied_within (length c.args.table.now) (length c.args.words.now / latch_words), c.copied-m.ensures)
+pub returns-after-loop-i : goal.returns-after-loop-i
+returns-after-loop-i c =
+    c.loop-i.invariant ∙ ap (sofar take_next c.args.words.now c.args.table.now) (le_antisymm (omega arith) c.loop-i-test.false)
+    ∙ all_back_lem take_next c.args.words.now c.args.table.now c.if-table-words.true
 
-pub offset_bounds-table-i : goal.offset_bounds-table-i
-offset_bounds-table-i c = omega (arith, copied_within (length c.args.table.now) (length c.args.words.now / latch_words), c.copied-m.ensures)
-
-pub bounds-table-i : goal.bounds-table-i
-bounds-table-i c = omega (arith, copied_within (length c.args.table.now) (length c.args.words.now / latch_words), c.copied-m.ensures)
-
-pub returns : goal.returns
-returns c =
-    c.loop-i.invariant.1 ∙ ap (sofar take_next c.args.words.now c.args.table.now) (le_antisymm c.loop-i.invariant.0 c.loop-i-test.false ∙ c.copied-m.ensures)
-    ∙ sofar_copied take_next c.args.words.now c.args.table.now
+pub returns-else-table-words : goal.returns-else-table-words
+returns-else-table-words c = none_back take_next c.args.words.now c.args.table.now c.if-table-words.false

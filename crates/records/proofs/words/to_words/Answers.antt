@@ -1,21 +1,14 @@
 -- `records::words::to_words` meets its contract.
 use native.Mathlib.Omega.{arith}
 use native.Mathlib.Nat.{le_antisymm}
-use Rattle.std.proofs.Common.{length, ap, ◌∙◌, ◌/◌}
-use Rattle.graph.specs.Latches.{latch_words}
-use Rattle.records.proofs.Laying.{sofar, sofar_copied, copied_within}
+use Rattle.std.proofs.Common.{ap, ◌∙◌}
+use Rattle.records.proofs.Laying.{sofar, all_laid, none_laid}
 use Rattle.records.proofs.words.to_words.Goals as goal
 
-pub offset_bounds-table-i : goal.offset_bounds-table-i
-offset_bounds-table-i c = omega (arith, copied_within (length c.args.table.now) (length c.args.words.now / latch_words), c.copied-m.ensures)
+pub returns-after-loop-i : goal.returns-after-loop-i
+returns-after-loop-i c =
+    c.loop-i.invariant ∙ ap (sofar c.args.table.now c.args.words.now) (le_antisymm (omega arith) c.loop-i-test.false)
+    ∙ all_laid c.args.table.now c.args.words.now c.if-table-words.true
 
-pub bounds-table-i : goal.bounds-table-i
-bounds-table-i c = omega (arith, copied_within (length c.args.table.now) (length c.args.words.now / latch_words), c.copied-m.ensures)
-
-pub write_latch-requires : goal.write_latch-requires
-write_latch-requires c = omega (arith, copied_within (length c.args.table.now) (length c.args.words.now / latch_words), c.copied-m.ensures)
-
-pub returns : goal.returns
-returns c =
-    c.loop-i.invariant.1 ∙ ap (sofar c.args.table.now c.args.words.now) (le_antisymm c.loop-i.invariant.0 c.loop-i-test.false ∙ c.copied-m.ensures)
-    ∙ sofar_copied c.args.table.now c.args.words.now
+pub returns-else-table-words : goal.returns-else-table-words
+returns-else-table-words c = none_laid c.args.table.now c.args.words.now c.if-table-words.false

@@ -1,6 +1,6 @@
-use Prim.Native.Nat.{◌+◌, ◌-◌, ◌≤◌}
+use Prim.Native.Nat.{◌+◌, ◌≤◌}
 use mathlib.Core.Path.{◌≡◌}
-use lib.ListN.{length, drop}
+use lib.ListN.{drop}
 use Rattle.renumber.specs.Renumber.{by}
 use Rattle.graph.specs.Count.{gates_below}
 use Rattle.reencode.specs.Numbers.{numbered}
@@ -10,9 +10,6 @@ use Rattle.reencode.proofs.gate_rows.rebuild_gates.Given as goal
 
 abbrev pub invariant-loop-i : goal.invariant-loop-i
 invariant-loop-i l =
-    (l.i ≤ l.used) × (length l.out ≡ length l.initial.out) × (length l.marks ≡ length l.initial.marks) × (l.k ≡ l.first + gates_below l.rows l.i) ×
+    (l.i ≤ l.used) × (l.k ≡ l.first + gates_below l.rows l.i) ×
     (l.out ≡ gates_added (numbered l.rows l.first (by l.initial.marks)) l.rows l.first l.initial.out l.i) × Halfway (numbered l.rows l.first (by l.initial.marks)) l.initial.marks l.i l.marks
     × (drop l.used l.marks ≡ drop l.used l.initial.marks)
-
-abbrev pub decreases-loop-i : goal.decreases-loop-i
-decreases-loop-i l = l.used - l.i

@@ -1,6 +1,5 @@
 -- `reencode::leaves::count_leaves` meets its contract.
 use native.Mathlib.Omega.{arith}
-use native.Mathlib.Nat.{le_antisymm}
 use mathlib.Core.Path.{refl}
 use Rattle.rows.specs.Rows.{leaf_at}
 use Rattle.graph.specs.Count.{count_below}
@@ -28,6 +27,3 @@ loop-i-preserved c =
         | else-rows-i w ↦ count_left leaf l.i l.invariant.1 (else_no_leaf a.rows.now l.i w.if-rows-i.false) w.n-is
       ],
     )
-
-pub returns : goal.returns
-returns c = rw (le_antisymm c.loop-i.invariant.0 c.loop-i-test.false) at c.loop-i.invariant.1

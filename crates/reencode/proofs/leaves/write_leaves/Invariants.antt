@@ -1,11 +1,7 @@
-use Prim.Native.Nat.{◌-◌, ◌≤◌}
+use Prim.Native.Nat.{◌≤◌}
 use mathlib.Core.Path.{◌≡◌}
-use lib.ListN.{length}
 use Rattle.reencode.specs.Rebuilding.{leaves_added}
 use Rattle.reencode.proofs.leaves.write_leaves.Given as goal
 
 abbrev pub invariant-loop-i : goal.invariant-loop-i
-invariant-loop-i l = (l.i ≤ l.n) × (length l.out ≡ length l.initial.out) × ((start : _) → l.initial.out ≡ leaves_added start 0 → l.out ≡ leaves_added start l.i)
-
-abbrev pub decreases-loop-i : goal.decreases-loop-i
-decreases-loop-i l = l.n - l.i
+invariant-loop-i l = (l.i ≤ l.n) × ((start : _) → l.initial.out ≡ leaves_added start 0 → l.out ≡ leaves_added start l.i)

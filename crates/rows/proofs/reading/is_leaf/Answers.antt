@@ -1,21 +1,13 @@
 -- `rows::reading::is_leaf` meets its contract.
-use native.Mathlib.Omega.{arith}
-use borrow.Author.Tests.{eqb-true}
-use Rattle.edge.proofs.Answers.{test_done, test_refused}
+use mathlib.Core.Path.{refl, sym}
+use Rattle.edge.proofs.Answers.{handed_on, not_done}
 use Rattle.rows.specs.Reading.{is_leaf_call}
-use Rattle.rows.proofs.Laws.{row_there}
 use Rattle.rows.proofs.reading.is_leaf.Goals as goal
 
-pub returns-then-not-is_done : goal.returns-then-not-is_done
+pub returns-in_err-a : goal.returns-in_err-a
 unfolding is_leaf_call
-returns-then-not-is_done c = rw (test_refused c.row_read-answer.ensures c.is_done.ensures c.if-not-is_done.true-raw, c.row_read-answer.ensures)
-
-pub bounds-rows-i : goal.bounds-rows-i
-bounds-rows-i c = omega (arith, row_there _ _ _ (eqb-true _ _ (test_done c.row_read-answer.ensures c.is_done.ensures c.if-not-is_done.false-raw)))
-
-pub bounds-rows-i-2 : goal.bounds-rows-i-2
-bounds-rows-i-2 c = omega (arith, row_there _ _ _ (eqb-true _ _ (test_done c.row_read-answer.ensures c.is_done.ensures c.if-not-is_done.false-raw)))
+returns-in_err-a c = rw (handed_on _ _ c.from_residual.ensures.1, sym c.in_err-a.ensures.answer, not_done c.in_err-a.field-0.0) refl
 
 pub returns : goal.returns
 unfolding is_leaf_call
-returns c = rw (test_done c.row_read-answer.ensures c.is_done.ensures c.if-not-is_done.false-raw, c.is_leaf.ensures, c.row_read-answer.ensures)
+returns c = rw (sym c.in_ok-a.ensures.answer, c.is_leaf.ensures, c.in_ok-a.ensures.words.0, c.in_ok-a.ensures.words.1) refl

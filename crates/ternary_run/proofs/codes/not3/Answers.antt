@@ -1,16 +1,21 @@
 -- `ternary_run::codes::not3` meets its contract.
-use borrow.Author.Tests.{eq-eqb, ne_eqb}
+use native.Mathlib.Omega.{arith}
+use mathlib.Core.Path.{◌≡◌, refl}
+use borrow.Author.Tests.{ne_eqb}
 use Rattle.ternary_run.specs.Codes.{not3}
 use Rattle.ternary_run.proofs.codes.not3.Goals as goal
 
-pub returns-then-a-eq0 : goal.returns-then-a-eq0
+pub returns-in-0 : goal.returns-in-0
 unfolding not3
-returns-then-a-eq0 c = simp (eq-eqb _ _ c.if-a-eq0.true)
+returns-in-0 c = rw c.in-0.is refl
 
-pub returns-then-a-eq1 : goal.returns-then-a-eq1
+pub returns-in-1 : goal.returns-in-1
 unfolding not3
-returns-then-a-eq1 c = simp (ne_eqb _ _ c.if-a-eq0.false, eq-eqb _ _ c.if-a-eq1.true)
+returns-in-1 c = rw c.in-1.is refl
 
-pub returns : goal.returns
+pub returns-in_default : goal.returns-in_default
 unfolding not3
-returns c = simp (ne_eqb _ _ c.if-a-eq0.false, ne_eqb _ _ c.if-a-eq1.false)
+returns-in_default c =
+    let not_1 : c.args.a ≡ 1 → ⊥ = omega arith in
+    let not_0 : c.args.a ≡ 0 → ⊥ = omega arith in
+    rw (ne_eqb _ _ not_1, ne_eqb _ _ not_0) refl

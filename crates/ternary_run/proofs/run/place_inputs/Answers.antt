@@ -1,32 +1,27 @@
 -- `ternary_run::run::place_inputs` meets its contract.
-use Prim.Native.Nat.{ℕ}
+use Prim.Native.Nat.{◌+◌}
 use native.Mathlib.Omega.{arith}
-use native.Mathlib.Nat.{le_antisymm}
-use mathlib.Core.Path.{refl, ap, ◌∙◌}
-use mathlib.Core.List.{List}
-use lib.ListN.{get_or, set}
-use Rattle.ternary_run.specs.Run.{placed, input_row}
-use Rattle.ternary_run.proofs.Running.{placed_more}
+use mathlib.Core.Path.{◌≡◌, refl, sym, ap, ◌∙◌}
+use mathlib.Core.List.{[], ◌∷◌, ◌++◌}
+use lib.ListN.{length, drop, length-append}
 use borrow.Author.Rules.{rules}
+use Rattle.ternary_run.specs.Run.{placed, input_row}
+use Rattle.ternary_run.proofs.Running.{next_of, placed_next}
 use Rattle.ternary_run.proofs.run.place_inputs.Goals as goal
 
-pub loop-i-init : goal.loop-i-init
+pub loop-x-init : goal.loop-x-init
 unfolding placed
-loop-i-init c = (search rules, refl, refl)
+loop-x-init c = (search rules, refl, search rules, search rules, refl)
 
-pub overflow_cast-x : goal.overflow_cast-x
-overflow_cast-x c = omega (arith, c.type_inv.inputs c.loop-i.i)
-
-pub bounds-values-x : goal.bounds-values-x
-bounds-values-x c = omega (arith, c.requires.2 c.loop-i.i c.loop-i-test.true)
-
-pub loop-i-preserved : goal.loop-i-preserved
-loop-i-preserved c = (
-  search rules,
-  search rules,
-  ap (λ (l : List ℕ). set l (input_row c.args.inputs.now c.loop-i.i) (get_or c.args.input.now c.loop-i.i 0))
-      c.loop-i.invariant.2 ∙ placed_more (input_row c.args.inputs.now) c.args.input.now c.loop-i.i c.args.values.now,
-)
-
-pub returns : goal.returns
-returns c = rw (le_antisymm c.loop-i.invariant.0 c.loop-i-test.false) at c.loop-i.invariant.2
+pub loop-x-preserved : goal.loop-x-preserved
+loop-x-preserved c =
+    let k = length c.loop-x.yielded in
+    let more : length (c.loop-x.yielded ++ ((c.in-Some.x, c.in-Some.code) ∷ [])) ≡ k + 1 = length-append c.loop-x.yielded ((c.in-Some.x, c.in-Some.code) ∷ []) in
+    let row = next_of c.args.inputs.now k _ _ (sym c.loop-x.invariant.2 ∙ c.in-Some.ensures.steps.0) in
+    let code = next_of c.args.input.now k _ _ (sym c.loop-x.invariant.3 ∙ c.in-Some.ensures.steps.1) in (
+      omega (arith, row.within, more),
+      search rules,
+      row.left ∙ ap (λ n. drop n c.args.inputs.now) (sym more),
+      code.left ∙ ap (λ n. drop n c.args.input.now) (sym more),
+      placed_next (input_row c.args.inputs.now) c.args.input.now c.loop-x.yielded (c.in-Some.x, c.in-Some.code) c.args.values.now _ _ c.loop-x.invariant.4 row.is code.is,
+    )

@@ -1,11 +1,10 @@
-use Prim.Native.Nat.{◌-◌, ◌≤◌}
+use Prim.Native.Nat.{◌≤◌}
 use mathlib.Core.Path.{◌≡◌}
-use lib.ListN.{length}
+use lib.ListN.{length, drop}
 use Rattle.ternary_run.specs.Run.{placed, input_row}
 use Rattle.ternary_run.proofs.run.place_inputs.Given as goal
 
-abbrev pub invariant-loop-i : goal.invariant-loop-i
-invariant-loop-i l = (l.i ≤ l.n) × (length l.values ≡ length l.initial.values) × (l.values ≡ placed (input_row l.inputs) l.input l.i l.initial.values)
-
-abbrev pub decreases-loop-i : goal.decreases-loop-i
-decreases-loop-i l = l.n - l.i
+abbrev pub invariant-loop-x : goal.invariant-loop-x
+invariant-loop-x l =
+    (length l.yielded ≤ length l.inputs) × (length l.values ≡ length l.initial.values) × (l.x-iterator.a.rest.now ≡ drop (length l.yielded) l.inputs) ×
+    (l.x-iterator.b.rest.now ≡ drop (length l.yielded) l.input) × (l.values ≡ placed (input_row l.inputs) l.input (length l.yielded) l.initial.values)

@@ -1,0 +1,8 @@
+-- `records::by_lending::new_input` meets its contract.
+use Rattle.build_leaves.specs.Leaves.{new_input_call}
+use Rattle.records.proofs.Refusing.{lent_refused}
+use Rattle.records.proofs.by_lending.new_input.Goals as goal
+
+pub returns-in_err-id : goal.returns-in_err-id
+unfolding new_input_call
+returns-in_err-id c = lent_refused _ _ _ c.args.counts _ _ _ _ _ c.in_err-id.ensures _ c.from_residual.ensures.1

@@ -1,7 +1,0 @@
--- `sulandiro_edge::sulandiro_edge_to_constant` meets its contract.
-use Rattle.sulandiro_edge.specs.Told.{told_truth}
-use Rattle.sulandiro_edge.proofs.Telling.{tells}
-use Rattle.sulandiro_edge.proofs.sulandiro_edge_to_constant.Goals as goal
-
-pub returns : goal.returns
-returns c = tells told_truth _ c.args.told.now c.tell_truth.ensures _ c.to_constant-r.ensures
