@@ -5,7 +5,7 @@ use crate::parts::{counts, graph, list, word};
 use crate::seen::{Seen, counted, word_of};
 use build_leaves::Built;
 
-// `build_nodes::new_and_node` and `build_nodes::new_eq_node`: the rows are lent.
+// `build_nodes::new_and_node` and `build_nodes::new_eq_node`: the rows are lent. The call is asked in here, since all else of both is the same.
 pub fn built(case: &[u32], call: Call, seen: &mut Seen) {
     let mut rows = [0u32; 16];
     let n = copied(list(case, 2), &mut rows);

@@ -6,6 +6,7 @@ use crate::seen::{Seen, counted};
 use output::Tables;
 
 // `reencode::reencode`, which writes the second graph that is lent, and `unroll::unroll`, which writes the first. The marks are list 20.
+// The call is asked in here, since what is lent to both and shown of both is the same.
 pub fn rebuilt(case: &[u32], call: Call, seen: &mut Seen) {
     let first = if call == Call::Reencode { 11 } else { 2 };
     let mut rows = [0u32; 8];
