@@ -79,6 +79,7 @@ fn write_nexts(latches: &mut [u32], from: &[u32], n: usize, map: &[u32])
 }
 
 // The latches, and each root list grown by the graph's mapped entries, justice by whole sets.
+// Not one function with `write_lists` of `renumber`: latches are set in place here and written behind there, and each promise names its map, which a closure would hide.
 pub fn grow_lists(tables: &mut Tables, at: Counts, graph: &Graph, map: &[u32])
     requires { ListsReady map.now (lists_of (lent_in tables.old at)) at (lists_of (lent_of graph.now)) graph.now.counts }
     ensures same_lists { SameLists tables.new tables.old }
