@@ -3,7 +3,7 @@
 use Prim.Native.Nat.{ℕ, ◌*◌, ◌≤◌}
 use native.Mathlib.Omega.{arith}
 use mathlib.Core.Path.{◌≡◌, refl, ap, ◌∙◌}
-use mathlib.Core.Bool.{Bool, true}
+use mathlib.Core.Bool.{Bool, true, false, ◌&&◌}
 use mathlib.Core.List.{List, ◌++◌}
 use lib.ListN.{length, take, drop}
 use lib.Seq.{length-take-le}
@@ -43,13 +43,21 @@ pub record ConeReady (g : Lent) (roots flags : List ℕ) : Type 0 where
   pub rows : 2 * length (take g.counts.rows flags) ≤ length g.rows
   pub used : every (used_edge (length (take g.counts.rows flags))) roots ≡ true
 
+-- where there is no room, the roots are not asked
+only_roomy : (room good : Bool) (g : Lent) (marks : List ℕ) → args_call room (room && good) g marks ≡ args_call room good g marks
+unfolding args_call
+only_roomy true good g marks = refl
+only_roomy false good g marks = refl
+
 -- `after` are the marks
 module _ (g : Lent) (roots flags marks : List ℕ) {after : List ℕ} where
   -- the call asks the library's `list_all` of the roots
-  pub as_checked : {good : Bool} (r : Result Unit Refusal) → good ≡ list_all (used_edge g.counts.rows) roots
+  pub as_checked : {good : Bool} (r : Result Unit Refusal) → good ≡ (cone_room g roots (length flags) && list_all (used_edge g.counts.rows) roots)
       → check_seen r after ≡ args_call (cone_room g roots (length flags)) good g marks → check_seen r after ≡ cone_checked g roots (length flags) marks
   unfolding cone_checked
-  as_checked r e seen = seen ∙ ap (λ (b : Bool). args_call (cone_room g roots (length flags)) b g marks) (e ∙ every_all (used_edge g.counts.rows) roots)
+  as_checked r e seen =
+      let asked = λ (b : Bool). args_call (cone_room g roots (length flags)) b g marks in
+      seen ∙ ap asked e ∙ only_roomy _ _ g marks ∙ ap asked (every_all (used_edge g.counts.rows) roots)
 
   pub cone_refused : (f : Refusal) → check_seen (Err f) after ≡ cone_checked g roots (length flags) marks → cone_seen (Err f) flags after ≡ cone_call g roots flags marks
   unfolding cone_call

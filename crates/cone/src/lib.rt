@@ -3,7 +3,8 @@
 
 pub mod below;
 
-ghost use Rattle.std.specs.Prelude.{◌≡◌, true, ◌*◌, ◌≤◌, length};
+ghost use Rattle.std.specs.Prelude.{◌≡◌, true, ◌&&◌, ◌*◌, ◌≤◌, length};
+ghost use Rattle.std.specs.List.{list_all};
 ghost use Rattle.graph.specs.Leaves.{used_edge};
 ghost use Rattle.graph.specs.Graph.{lent_of};
 ghost use Rattle.root_marks.specs.Arguments.{every};
@@ -30,6 +31,13 @@ fn write(rows: &[u32], roots: &[u32], flags: &mut [u32])
     mark_below(rows, flags);
 }
 
+// Is every root an edge to a used row? Where there is no room the roots, which may be any number, are not looked at.
+fn roots_good(room: bool, roots: &[u32], used: usize) -> bool
+    ensures { result ≡ (room && list_all (used_edge used) roots.now) }
+{
+    room && all_used(roots, used)
+}
+
 // Flags the rows of the roots and all fanins below, not across latches: 0 or 1 for each used row. A root whose row is not used: 4.
 pub fn fanin_logic_cone(
     graph: &Graph,
@@ -41,7 +49,7 @@ pub fn fanin_logic_cone(
 {
     let used = graph.counts.rows;
     let room = (used <= flags.len()) & (roots.len() <= MAX_ENTRIES);
-    asked(graph, room, all_used(roots, used), marks)?;
+    asked(graph, room, roots_good(room, roots, used), marks)?;
     write(graph.rows, roots, &mut flags[..used]);
     Ok(())
 }

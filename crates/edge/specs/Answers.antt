@@ -42,7 +42,7 @@ number_of Fairness = 7
 abbrev pub refused : Refusal → Given
 refused BadSizes = bad_sizes
 refused (BadRow row) = given 2 row 0 0
-refused (BadEntry list index second) = given 3 (number_of list) index second
+refused (BadEntry list index second) = given 3 list index second
 refused BadArgument = bad_argument
 refused NoRoom = no_room
 
@@ -55,33 +55,13 @@ abbrev pub value_or : {T : Type 0} → T → Result T Refusal → T
 value_or nothing (Ok x) = x
 value_or nothing (Err _) = nothing
 
--- the list is known by its number
-list_of : ℕ → Column
-list_of n =
-    cond (eqb n 1) Inputs
-    (cond (eqb n 2) Latches
-    (cond (eqb n 3) Constraints
-    (cond (eqb n 4) Bads
-    (cond (eqb n 5) Outputs
-    (cond (eqb n 6) Justice Fairness)))))
-
-list_numbered : (l : Column) → list_of (number_of l) ≡ l
-unfolding list_of
-list_numbered Inputs = refl
-list_numbered Latches = refl
-list_numbered Constraints = refl
-list_numbered Bads = refl
-list_numbered Outputs = refl
-list_numbered Justice = refl
-list_numbered Fairness = refl
-
 -- the answer is known by its number and place, and by what comes with it
 answer_of : {T : Type 0} → T → Given → Result T Refusal
 answer_of x t =
     cond (eqb t.number 0) (Ok x)
     (cond (eqb t.number 1) (Err BadSizes)
     (cond (eqb t.number 2) (Err (BadRow t.place))
-    (cond (eqb t.number 3) (Err (BadEntry (list_of t.place) t.index t.second))
+    (cond (eqb t.number 3) (Err (BadEntry t.place t.index t.second))
     (cond (eqb t.number 4) (Err BadArgument) (Err NoRoom)))))
 
 answer_told_lem : {T : Type 0} (nothing : T) (r : Result T Refusal) → answer_of (value_or nothing r) (told r) ≡ r
@@ -89,7 +69,7 @@ unfolding answer_of
 answer_told_lem nothing (Ok x) = refl
 answer_told_lem nothing (Err BadSizes) = refl
 answer_told_lem nothing (Err (BadRow i)) = refl
-answer_told_lem nothing (Err (BadEntry l i s)) = rw (list_numbered l) refl
+answer_told_lem nothing (Err (BadEntry l i s)) = refl
 answer_told_lem nothing (Err BadArgument) = refl
 answer_told_lem nothing (Err NoRoom) = refl
 

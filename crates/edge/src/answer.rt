@@ -19,8 +19,9 @@ pub enum List {
 pub enum Refusal {
     BadSizes,
     BadRow(usize),
+    // The list by its number: what is told of a refusal is promised of every number, whether a list has it or not.
     BadEntry {
-        list: List,
+        list: u8,
         index: usize,
         second: usize,
     },
@@ -48,10 +49,10 @@ fn numbered(number: u8, place: usize, index: usize, second: usize) -> Given
     }
 }
 
-impl From<List> for usize {
+impl From<List> for u8 {
     ghost from_gives = { λ list number. number ≡ number_of list };
 
-    fn from(list: List) -> usize {
+    fn from(list: List) -> u8 {
         match list {
             List::Inputs => 1,
             List::Latches => 2,
@@ -61,6 +62,14 @@ impl From<List> for usize {
             List::Justice => 6,
             List::Fairness => 7,
         }
+    }
+}
+
+impl From<List> for usize {
+    ghost from_gives = { λ list number. number ≡ number_of list };
+
+    fn from(list: List) -> usize {
+        usize::from(u8::from(list))
     }
 }
 

@@ -5,7 +5,6 @@ ghost use Rattle.edge.specs.Answers.{told};
 ghost use Rattle.graph.specs.Search.{first_bad};
 ghost use Rattle.graph.specs.Stages.{first_fault};
 ghost use Rattle.graph.specs.Justice.{end_is, good_end};
-ghost use Rattle.graph.specs.Graph.{lent_of, ListsLent};
 ghost use Rattle.graph.specs.Check.{set_stage, justice_stages};
 
 use crate::Graph;
@@ -38,7 +37,7 @@ fn first_bad_end(ends: &[u32], sets: usize, edges: usize) -> Option<usize>
 
 // The edges of the sets, whose ends are good: the search goes set by set and stops at the first edge whose row is not used.
 fn check_sets(graph: &Graph) -> Result<(), Refusal>
-    requires lent { ListsLent (lent_of graph.now) }
+    requires lent { (graph.now.counts.sets ≤ length graph.now.ends.now) × (graph.now.counts.edges ≤ length graph.now.edges.now) }
     requires sets { 0 < graph.now.counts.sets }
     requires ends { first_bad (good_end graph.now.ends.now graph.now.counts.sets graph.now.counts.edges) 0 graph.now.counts.sets ≡ None }
     ensures { told result ≡ first_fault (set_stage graph.now.counts.rows graph.now.ends.now graph.now.counts.sets graph.now.edges.now graph.now.counts.edges ∷ []) }
@@ -56,7 +55,7 @@ fn check_sets(graph: &Graph) -> Result<(), Refusal>
         for k in from..end {
             if !is_used(edges[k], counts.rows) {
                 answer = Err(Refusal::BadEntry {
-                    list: List::Justice,
+                    list: u8::from(List::Justice),
                     index: s,
                     second: 1 + (k - from),
                 });
@@ -69,7 +68,7 @@ fn check_sets(graph: &Graph) -> Result<(), Refusal>
 }
 
 pub fn check_justice(graph: &Graph) -> Result<(), Refusal>
-    requires { ListsLent (lent_of graph.now) }
+    requires { (graph.now.counts.sets ≤ length graph.now.ends.now) × (graph.now.counts.edges ≤ length graph.now.edges.now) }
     ensures { told result ≡ first_fault (justice_stages graph.now.counts.rows graph.now.ends.now graph.now.counts.sets graph.now.edges.now graph.now.counts.edges) }
 {
     let counts = graph.counts;

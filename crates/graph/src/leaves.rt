@@ -19,7 +19,8 @@ use rows::kinds;
 
 // Lists row x: where it is a used leaf without a mark, it is marked.
 fn claim(graph: &Graph, x: u32, marks: &mut [u32]) -> bool
-    requires { LeavesLent (lent_of graph.now) (length marks.old) }
+    requires rows { 2 * graph.now.counts.rows ≤ length graph.now.rows.now }
+    requires marked { graph.now.counts.rows ≤ length marks.old }
     ensures value { result ≡ unmarked_leaf graph.now.rows.now graph.now.counts.rows marks.old x }
     ensures marks_after { marks.new ≡ cond result (set marks.old x 1) marks.old }
 {
@@ -37,7 +38,9 @@ fn claim(graph: &Graph, x: u32, marks: &mut [u32]) -> bool
 
 // A `for`: a test marks what it lists, so its steps have an order.
 fn first_bad_input(graph: &Graph, marks: &mut [u32]) -> Option<usize>
-    requires lent { LeavesLent (lent_of graph.now) (length marks.old) }
+    requires rows { 2 * graph.now.counts.rows ≤ length graph.now.rows.now }
+    requires inputs { graph.now.counts.inputs ≤ length graph.now.inputs.now }
+    requires marked { graph.now.counts.rows ≤ length marks.old }
     requires marks { Marks graph.now.counts.rows [] marks.old }
     ensures value { result ≡ first_bad (good_input graph.now.rows.now graph.now.counts.rows graph.now.inputs.now) 0 graph.now.counts.inputs }
     ensures marks_unchanged { drop graph.now.counts.rows marks.new ≡ drop graph.now.counts.rows marks.old }
@@ -60,7 +63,9 @@ pub fn latch_edges(used: usize, l: Latch) -> bool
 
 // The marks stand for the inputs, which are listed before all latches.
 fn first_bad_latch(graph: &Graph, marks: &mut [u32]) -> Option<usize>
-    requires lent { LeavesLent (lent_of graph.now) (length marks.old) }
+    requires rows { 2 * graph.now.counts.rows ≤ length graph.now.rows.now }
+    requires latches { latch_words * graph.now.counts.latches ≤ length graph.now.latches.now }
+    requires marked { graph.now.counts.rows ≤ length marks.old }
     requires marks { Marks graph.now.counts.rows (take graph.now.counts.inputs graph.now.inputs.now) marks.old }
     ensures value { result ≡ first_bad (good_latch graph.now.rows.now graph.now.counts.rows (take graph.now.counts.inputs graph.now.inputs.now) graph.now.latches.now) 0 graph.now.counts.latches }
     ensures marks_unchanged { drop graph.now.counts.rows marks.new ≡ drop graph.now.counts.rows marks.old }

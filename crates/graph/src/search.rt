@@ -11,7 +11,7 @@ pub fn no_bad_entry(list: List, first_bad: Option<usize>) -> Result<(), Refusal>
 {
     match first_bad {
         Some(index) => Err(Refusal::BadEntry {
-            list,
+            list: u8::from(list),
             index,
             second: 0,
         }),

@@ -7,6 +7,7 @@ ghost use Rattle.output.specs.Room.{room_in};
 ghost use Rattle.output.specs.Copying.{copied, copy_of};
 ghost use Rattle.output.specs.Steps.{WordsFit, CopyFits};
 
+use crate::write_each;
 use graph::latch::LATCH_WORDS;
 use graph::{Counts, Graph};
 
@@ -79,10 +80,10 @@ impl Tables<'_> {
     }
 }
 
-// Copies the first n words of a list.
+// Copies the first n words of a list. Word by word: `copy_from_slice` would have the archives ask their caller for `memmove`.
 pub fn copy_words(out: &mut [u32], list: &[u32], n: usize)
     requires { WordsFit out.old list.now n }
     ensures { out.new ≡ copied out.old list.now n }
 {
-    out[..n].copy_from_slice(&list[..n]);
+    write_each(out, 0, &list[..n], |word| word);
 }

@@ -32,9 +32,9 @@ abbrev pub listed_seen : Rebuilt → Lent → List ℕ → List ℕ → ListedSe
 listed_seen r graph old marks = record { given = told r; graph = graph; old = old; marks = marks }
 
 -- ---- any two results that a promise allows are equal: here for any call, and beside each definition for its own
--- two answers, where the graphs x and y have the counts that came back, or where they were refused those that were given
+-- two answers tell the same; and they are equal, counts and all, where the graphs x and y have the counts that came back, or where they were refused those that were given
 abbrev pub SameAnswer : Rebuilt → Lent → Rebuilt → Lent → Type 0
-SameAnswer r x s y = (given : Counts) → x.counts ≡ value_or given r → y.counts ≡ value_or given s → r ≡ s
+SameAnswer r x s y = (told r ≡ told s) × ((given : Counts) → x.counts ≡ value_or given r → y.counts ≡ value_or given s → r ≡ s)
 
 abbrev pub SameRebuilt : Rebuilt → Lent → List ℕ → Rebuilt → Lent → List ℕ → Type 0
 SameRebuilt r x m s y n = SameAnswer r x s y × (x ≡ y) × (m ≡ n)
@@ -43,7 +43,7 @@ abbrev pub SameListed : Rebuilt → Lent → List ℕ → List ℕ → Rebuilt �
 SameListed r x o m s y p n = SameAnswer r x s y × (x ≡ y) × (o ≡ p) × (m ≡ n)
 
 same_answer : (r s : Rebuilt) (x y : Lent) → told r ≡ told s → x ≡ y → SameAnswer r x s y
-same_answer r s x y t g given p q = answer_known given r s t (sym p ∙ (ap (λ (z : Lent). z.counts) g ∙ q))
+same_answer r s x y t g = (t, λ given p q. answer_known given r s t (sym p ∙ (ap (λ (z : Lent). z.counts) g ∙ q)))
 
 pub rebuilt_determined : {L : Type 0} (call : L → RebuiltSeen) (l : L) (r s : Rebuilt) (x y : Lent) (m n : List ℕ) → rebuilt_seen r x m ≡ call l → rebuilt_seen s y n ≡ call l → SameRebuilt r x m s y n
 rebuilt_determined call l r s x y m n p q =

@@ -38,8 +38,8 @@ pub fn mark_edges(edges: &[u32], marks: &mut [u32])
     ensures { marks.new ≡ mark_edges edges.now marks.old }
 {
     for e in edges {
-        let x = (e / 2) as usize;
-        marks[x] = 1;
+        let row = (e / 2) as usize;
+        marks[row] = 1;
     }
 }
 

@@ -14,7 +14,7 @@ fn tell_fanins(told: &mut [u64], r: Result<(u32, u32), Refusal>)
     ensures { told.new ≡ told_fanins (fanin_seen r) told.old }
 {
     let (first, second) = r.unwrap_or((0, 0));
-    tell_word(told, r.map(|_| first as u64));
+    tell_word(told, r.map(|_| first as u64), 0);
     put(told, 5, second as u64);
 }
 
@@ -23,7 +23,7 @@ fn tell_fanins(told: &mut [u64], r: Result<(u32, u32), Refusal>)
 pub extern "C" fn sulandiro_edge_new(id: u32, complement: bool, told: &mut [u64])
     ensures { told.new ≡ told_edge (new_call id complement) told.old }
 {
-    tell_word(told, edge::new(id, complement).map(u64::from));
+    tell_word(told, edge::new(id, complement).map(u64::from), 0);
 }
 
 // `edge::node_id`.
@@ -98,7 +98,7 @@ pub extern "C" fn sulandiro_edge_try_to_constant(e: u32) -> u8
 pub extern "C" fn sulandiro_edge_to_constant(e: u32, told: &mut [u64])
     ensures { told.new ≡ told_truth (to_constant_call e) told.old }
 {
-    tell_word(told, edge::to_constant(e).map(u64::from));
+    tell_word(told, edge::to_constant(e).map(u64::from), 0);
 }
 
 // `edge::map`. Behind the answer `told` takes the edge.
@@ -106,7 +106,7 @@ pub extern "C" fn sulandiro_edge_to_constant(e: u32, told: &mut [u64])
 pub extern "C" fn sulandiro_edge_map(e: u32, map: &[u32], told: &mut [u64])
     ensures { told.new ≡ told_edge (map_call e map.now) told.old }
 {
-    tell_word(told, edge::map(e, map).map(u64::from));
+    tell_word(told, edge::map(e, map).map(u64::from), 0);
 }
 
 // `rows::is_and`. Behind the answer `told` takes 0 or 1.
@@ -114,7 +114,7 @@ pub extern "C" fn sulandiro_edge_map(e: u32, map: &[u32], told: &mut [u64])
 pub extern "C" fn sulandiro_is_and(rows: &[u32], used: usize, id: u32, told: &mut [u64])
     ensures { told.new ≡ told_truth (is_and_call rows.now used id) told.old }
 {
-    tell_word(told, rows::is_and(rows, used, id).map(u64::from));
+    tell_word(told, rows::is_and(rows, used, id).map(u64::from), 0);
 }
 
 // `rows::is_leaf`. Behind the answer `told` takes 0 or 1.
@@ -122,7 +122,7 @@ pub extern "C" fn sulandiro_is_and(rows: &[u32], used: usize, id: u32, told: &mu
 pub extern "C" fn sulandiro_is_leaf(rows: &[u32], used: usize, id: u32, told: &mut [u64])
     ensures { told.new ≡ told_truth (is_leaf_call rows.now used id) told.old }
 {
-    tell_word(told, rows::is_leaf(rows, used, id).map(u64::from));
+    tell_word(told, rows::is_leaf(rows, used, id).map(u64::from), 0);
 }
 
 // `rows::fanin`. Behind the answer `told` takes both fanins.
@@ -138,7 +138,7 @@ pub extern "C" fn sulandiro_fanin(rows: &[u32], used: usize, id: u32, told: &mut
 pub extern "C" fn sulandiro_fanin0(rows: &[u32], used: usize, id: u32, told: &mut [u64])
     ensures { told.new ≡ told_edge (fanin0_call rows.now used id) told.old }
 {
-    tell_word(told, rows::fanin0(rows, used, id).map(u64::from));
+    tell_word(told, rows::fanin0(rows, used, id).map(u64::from), 0);
 }
 
 // `rows::fanin1`. Behind the answer `told` takes the fanin.
@@ -146,5 +146,5 @@ pub extern "C" fn sulandiro_fanin0(rows: &[u32], used: usize, id: u32, told: &mu
 pub extern "C" fn sulandiro_fanin1(rows: &[u32], used: usize, id: u32, told: &mut [u64])
     ensures { told.new ≡ told_edge (fanin1_call rows.now used id) told.old }
 {
-    tell_word(told, rows::fanin1(rows, used, id).map(u64::from));
+    tell_word(told, rows::fanin1(rows, used, id).map(u64::from), 0);
 }

@@ -209,7 +209,7 @@ pub extern "C" fn sulandiro_value(values: &[u8], used: usize, e: u32, told: &mut
         ≡ shown_of (value_read (value_call values.now used e)) told.old }
 {
     let r = ternary::value(values, used, e);
-    tell_word(told, r.map(u64::from));
+    tell_word(told, r.map(u64::from), 0);
 }
 
 // `cnf::cnf`. Behind the answer `told` takes how many words of clauses were written.
@@ -246,5 +246,5 @@ pub extern "C" fn sulandiro_cnf(
         counts: counts_in(counts),
     };
     let r = cnf::cnf(&graph, shortcuts, clauses, marks);
-    tell_word(told, r.map(|words| words as u64));
+    tell_word(told, r.map(|words| words as u64), 0);
 }

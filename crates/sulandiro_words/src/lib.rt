@@ -70,12 +70,12 @@ pub fn tell_counts(words: &mut [u64], n: Counts)
     put(words, 12, n.fairness as u64);
 }
 
-// Writes an answer, and behind it the word that comes with it: 0 where it is refused.
-pub fn tell_word(words: &mut [u64], answer: Result<u64, Refusal>)
-    ensures { words.new ≡ told_words words.old (told_of answer) (value_or 0 answer ∷ []) }
+// Writes an answer, and behind it the word that comes with it, which is the one given where it is refused.
+pub fn tell_word(words: &mut [u64], answer: Result<u64, Refusal>, given: u64)
+    ensures { words.new ≡ told_words words.old (told_of answer) (value_or given answer ∷ []) }
 {
     tell(words, answer.map(|_| ()));
-    put(words, 4, answer.unwrap_or(0));
+    put(words, 4, answer.unwrap_or(given));
 }
 
 // Writes what a call that rebuilds a graph answers: the answer, then the counts, which are those given where it is refused.

@@ -8,8 +8,8 @@ use Rattle.root_marks.proofs.Arguments.{every_at}
 use Rattle.root_marks.proofs.Marking.{edges_turn, edges_end}
 use Rattle.root_marks.proofs.mark_edges.Goals as goal
 
-pub bounds-marks-x : goal.bounds-marks-x
-bounds-marks-x c =
+pub bounds-marks-row : goal.bounds-marks-row
+bounds-marks-row c =
     omega (arith, c.loop-e.auto.marks, ltb-true _ _ (every_at (used_edge (length c.args.marks.now)) c.args.edges.now c.requires c.loop-e.e-index c.loop-e-test.true))
 
 pub loop-e-preserved : goal.loop-e-preserved

@@ -18,13 +18,13 @@ shape_of-s-requires c =
     let h = gate_below a.i (word0 a.rows.now a.i) (word1 a.rows.now a.i) (row_gate a.shortcuts a.rows.now a.i a.marks.now c.is_gate.ensures c.if-not-marks-i.false-raw) in
     record { f_in_bounds = omega (arith, c.requires.i_in_bounds); g_in_bounds = omega (arith, c.requires.i_in_bounds) }
 
+pub returns : goal.returns
+returns c =
+    let a = c.args in
+    record { shape = c.shape_of-s.ensures ∙ row_written a.shortcuts a.rows.now a.i a.marks.now c.is_gate.ensures c.if-not-marks-i.false-raw; marked = c.mark_operands.ensures }
+
 pub mark_operands-requires : goal.mark_operands-requires
 mark_operands-requires c =
     let a = c.args in
     rw c.shape_of-s.ensures
     (row_low a.shortcuts a.rows.now a.i a.marks.now c.is_gate.ensures c.if-not-marks-i.false-raw c.requires.i_in_bounds_2)
-
-pub returns : goal.returns
-returns c =
-    let a = c.args in
-    record { shape = c.shape_of-s.ensures ∙ row_written a.shortcuts a.rows.now a.i a.marks.now c.is_gate.ensures c.if-not-marks-i.false-raw; marked = c.mark_operands.ensures }

@@ -58,4 +58,4 @@ returns-then-not-is_used c =
     (sym c.is_used.ensures ∙ not-true _ c.if-not-is_used.true-raw) in
     sym
     (stage_stops (set_stage c.args.graph.now.counts.rows c.args.graph.now.ends.now c.args.graph.now.counts.sets c.args.graph.now.edges.now c.args.graph.now.counts.edges) _ first ∙ rw
-    (here, ← c.sets.invariant.2) refl)
+    (here, ← c.sets.invariant.2, c.from.ensures) refl)

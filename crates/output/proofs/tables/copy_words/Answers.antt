@@ -1,12 +1,13 @@
 -- `output::tables::copy_words` meets its contract.
-use mathlib.Core.Path.{ap, ◌∙◌}
-use mathlib.Core.List.{List, ◌++◌}
 use Prim.Native.Nat.{ℕ}
-use lib.ListN.{drop}
-use Rattle.output.proofs.Copying.{copied_whole}
+use mathlib.Core.Path.{◌∙◌}
+use borrow.Author.Rules.{rules}
+use Rattle.output.specs.Copying.{copied}
+use Rattle.output.proofs.Writing.{each_taken}
 use Rattle.output.proofs.tables.copy_words.Goals as goal
 
 pub returns : goal.returns
+unfolding copied
 returns c =
     let a = c.args in
-    ap (λ (l : List ℕ). l ++ drop a.n a.out.now) c.copy_from_slice.ensures.after ∙ copied_whole a.out.now a.list.now a.n c.requires.has c.requires.room
+    c.write_each.ensures (λ (x : ℕ). x) (λ x r p. search rules) ∙ each_taken a.out.now 0 (λ (x : ℕ). x) a.list.now a.n c.requires.has
