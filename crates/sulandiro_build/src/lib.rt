@@ -25,7 +25,7 @@ fn tell_made(told: &mut [u64], answer: Result<(), Refusal>, n: Counts, made: u32
     put(told, 13, made as u64);
 }
 
-// The edge that was built. On a refusal the counts are those that were given, and it is 0. Inlined, so that an answer with its counts does not go through memory: a call is as short as this.
+// The edge that was built. On a refusal the counts are those that were given, and it is 0. Inlined: else an answer and its counts go through memory, and a call of a constructor takes up to twice the instructions.
 #[inline(always)]
 fn tell_built(told: &mut [u64], r: Result<Built, Refusal>, given: Counts)
     ensures { told.new ≡ told_words told.old (answer_told r) (made_words (built_or given r).counts (built_or given r).edge) }
