@@ -52,12 +52,15 @@ only_roomy false good g marks = refl
 -- `after` are the marks
 module _ (g : Lent) (roots flags marks : List ℕ) {after : List ℕ} where
   -- the call asks the library's `list_all` of the roots
-  pub as_checked : {good : Bool} (r : Result Unit Refusal) → good ≡ (cone_room g roots (length flags) && list_all (used_edge g.counts.rows) roots)
+  pub as_checked : {good : Bool} (r : Result Unit Refusal) → good ≡ list_all (used_edge g.counts.rows) roots
       → check_seen r after ≡ args_call (cone_room g roots (length flags)) good g marks → check_seen r after ≡ cone_checked g roots (length flags) marks
   unfolding cone_checked
-  as_checked r e seen =
-      let asked = λ (b : Bool). args_call (cone_room g roots (length flags)) b g marks in
-      seen ∙ ap asked e ∙ only_roomy _ _ g marks ∙ ap asked (every_all (used_edge g.counts.rows) roots)
+  as_checked r e seen = seen ∙ ap (λ (b : Bool). args_call (cone_room g roots (length flags)) b g marks) (e ∙ every_all (used_edge g.counts.rows) roots)
+
+  -- and asks it where there is room
+  pub roomy_checked : {good : Bool} (r : Result Unit Refusal) → good ≡ (cone_room g roots (length flags) && list_all (used_edge g.counts.rows) roots)
+      → check_seen r after ≡ args_call (cone_room g roots (length flags)) good g marks → check_seen r after ≡ cone_checked g roots (length flags) marks
+  roomy_checked r e seen = as_checked r refl (seen ∙ ap (λ (b : Bool). args_call (cone_room g roots (length flags)) b g marks) e ∙ only_roomy _ _ g marks)
 
   pub cone_refused : (f : Refusal) → check_seen (Err f) after ≡ cone_checked g roots (length flags) marks → cone_seen (Err f) flags after ≡ cone_call g roots flags marks
   unfolding cone_call

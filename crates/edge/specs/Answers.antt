@@ -38,6 +38,26 @@ number_of Outputs = 5
 number_of Justice = 6
 number_of Fairness = 7
 
+-- a list is known by its number
+pub list_of : ℕ → Column
+list_of n =
+    cond (eqb n 1) Inputs
+    (cond (eqb n 2) Latches
+    (cond (eqb n 3) Constraints
+    (cond (eqb n 4) Bads
+    (cond (eqb n 5) Outputs
+    (cond (eqb n 6) Justice Fairness)))))
+
+pub list_numbered : (l : Column) → list_of (number_of l) ≡ l
+unfolding list_of
+list_numbered Inputs = refl
+list_numbered Latches = refl
+list_numbered Constraints = refl
+list_numbered Bads = refl
+list_numbered Outputs = refl
+list_numbered Justice = refl
+list_numbered Fairness = refl
+
 -- 2 has the row as its place, 3 the list, the index and the second index
 abbrev pub refused : Refusal → Given
 refused BadSizes = bad_sizes

@@ -4,7 +4,7 @@ use Rattle.edge.proofs.Answers.{handed_on}
 use Rattle.graph.specs.Graph.{lent_of}
 use Rattle.graph.specs.Check.{check_seen}
 use Rattle.cone.specs.Call.{cone_seen, cone_checked}
-use Rattle.cone.proofs.Call.{ConeReady, as_checked, ready, cone_refused, cone_done}
+use Rattle.cone.proofs.Call.{ConeReady, roomy_checked, ready, cone_refused, cone_done}
 use Rattle.std.specs.Prelude.{◌≡◌, length, Ok, Err}
 use Rattle.cone.proofs.fanin_logic_cone.Goals as goal
 use Rattle.cone.proofs.fanin_logic_cone.Goals.{In_ok-asked}
@@ -12,7 +12,7 @@ use Rattle.cone.proofs.fanin_logic_cone.Goals.{In_ok-asked}
 -- the call is accepted
 seen : (c : In_ok-asked) → let graph = lent_of c.args.graph.now in
     check_seen (Ok tt) c.asked.new.marks ≡ cone_checked graph c.args.roots.now (length c.args.flags.now) c.args.marks.now
-seen c = as_checked (lent_of c.args.graph.now) c.args.roots.now c.args.flags.now c.args.marks.now (Ok tt) c.roots_good.ensures c.in_ok-asked.ensures
+seen c = roomy_checked (lent_of c.args.graph.now) c.args.roots.now c.args.flags.now c.args.marks.now (Ok tt) c.roots_good.ensures c.in_ok-asked.ensures
 
 known : (c : In_ok-asked) → ConeReady (lent_of c.args.graph.now) c.args.roots.now c.args.flags.now
 known c = ready (lent_of c.args.graph.now) c.args.roots.now c.args.flags.now c.args.marks.now (seen c)
@@ -22,7 +22,7 @@ returns-in_err-asked c =
     let graph = lent_of c.args.graph.now in
     ap (λ r. cone_seen r c.args.flags.now c.asked.new.marks) (handed_on _ _ c.from_residual.ensures.1) ∙
     cone_refused graph c.args.roots.now c.args.flags.now c.args.marks.now _
-    (as_checked graph c.args.roots.now c.args.flags.now c.args.marks.now (Err c.in_err-asked.field-0.0) c.roots_good.ensures c.in_err-asked.ensures)
+    (roomy_checked graph c.args.roots.now c.args.flags.now c.args.marks.now (Err c.in_err-asked.field-0.0) c.roots_good.ensures c.in_err-asked.ensures)
 
 pub slice_bounds-write-end : goal.slice_bounds-write-end
 slice_bounds-write-end c = (known (goal.at.slice_bounds-write-end c).In_ok-asked).long
